@@ -154,6 +154,11 @@ class Kept:
             self.add("guest %s %d" % (cookie, number))
             self.forget()
 
+    def renumber(self, number: int, me: int) -> None:
+        """Whichever browser had a number has another one from now on."""
+        for cookie in [cookie for cookie, its in self.guests.items() if its == number]:
+            self.admit(cookie, me)
+
     def keep(self, asked: str, digits: str) -> None:
         """Keeps what comes of something that a window asked for. NoRoom if there is none for it."""
         with self.writing:

@@ -161,10 +161,12 @@ class People:
     def undo_now(self) -> Drawop:
         """Deletes our latest drawing that the page in view shows."""
         member = self.member
-        own = [seq for source, _, seq in member.board.view(member.page) if source == member.me]
+        numbers = [*member.former, member.me]
+        own = [(numbers.index(source), seq) for source, _, seq in member.board.view(member.page) if source in numbers]
         if not own:
             raise Refused("nothing of ours is shown")
-        return self.draw_now(member.page, "delete %d %d" % (member.me, max(own)))
+        place, seq = max(own)
+        return self.draw_now(member.page, "delete %d %d" % (numbers[place], seq))
 
     def renumber(self) -> Dict[str, Any]:
         """Takes a new number, with a record of its own and all that is held."""

@@ -1,4 +1,4 @@
-/** What is in sight: everything at once, the way back to the drawings, the look of the page, light or dark, and the page on paper. */
+/** What is in sight: everything at once, the way back to the drawings, the look of the page, and light or dark. */
 import { $ } from './dom.js';
 import { boxAboutAll } from './inkpaint.js';
 import { FIRST_ROW } from './inksigns.js';
@@ -79,7 +79,7 @@ export class Sight {
       view.home();
       return;
     }
-    for (const island of document.querySelectorAll('.island')) {
+    for (const island of document.querySelectorAll('.island:not(#chosen)')) {
       const { top, bottom, height } = island.getBoundingClientRect();
       if (height && top + bottom < innerHeight) edge.top = Math.max(edge.top, bottom + FREE.beside);
       else if (height) edge.bottom = Math.max(edge.bottom, innerHeight - top + FREE.beside);
@@ -104,16 +104,5 @@ export class Sight {
   setTheme(theme) {
     this.board.painter.setTheme(theme);
     this.board.changeColours();
-  }
-
-  /** As ink the canvas is printed, with everything in it; by characters the text, as wide as the paper. */
-  fitPrint() {
-    const { painter, session } = this.board;
-    if (painter.isInk) {
-      this.fitAll();
-      painter.paint(performance.now());
-    }
-    const longest = Math.max(40, ...session.board.rows.map((row) => row.length));
-    $('text').style.fontSize = `${Math.min(12, 820 / longest)}pt`;
   }
 }

@@ -83,7 +83,7 @@ function memberOf({ isReady = true, cells = 1_000, strange = [] } = {}) {
   const member = { me: 1, page: '7/1', isReady, drawn: new Drawn(), alarms: new Alarms(), wire: new Wire(), host, record, sent, ticks, at: 0 };
   const board = new Board(null, record, { rate: 4_000, many: NEAR }, { here: null, strangers: null }, (drawop) => member.hold(drawop));
   Object.assign(board, { host, me: 1, cells, readyAt: isReady ? 0 : SECOND, strange: new Set(strange), wall: Date.now() * 1_000, now: () => member.at });
-  Object.assign(member, { board, hold: (drawop) => member.drawn.add(drawop), obey: (answer) => answer, wake: () => {}, begin: async () => { member.isReady = true; },
+  Object.assign(member, { board, hold: (drawop) => member.drawn.add(drawop), obey: (answer) => answer, wake: () => {}, mayPart: () => false, begin: async () => { member.isReady = true; },
     tick: async () => { ticks.push(member.at); }, send: (bytes) => { sent.push(hex(bytes)); return readDatagram(bytes); } });
   member.telling = new Telling(member, (name, news) => { member[name] = news; });
   member.people = new People(member);
@@ -255,6 +255,16 @@ async function testMoves() {
   check('it has left', [present(), judging.heard.isMember(Y)], [[], false]);
 }
 
+/** Nobody is nearer than here, though a clock gains. */
+async function testNear() {
+  const member = memberOf(), { judging, host, board } = member;
+  board.moment = member.at = 25;
+  member.says();
+  host.members(`9 ${wordOf(X)} 25 25`);
+  await heed(member, 'session-message 9 77 7/1 1@5+25', X);
+  check('it is as near as can be', judging.present().map(([, { delay }]) => delay), [0]);
+}
+
 /** The member tells its host other constants in the next turn, when a fourth other is heard, and when all are gone. */
 async function testFollowed() {
   const member = memberOf(), { judging, board, host } = member, tunings = () => host.told.filter((line) => line.startsWith('tuning'));
@@ -395,8 +405,8 @@ async function testPages() {
   for (const name of [...names.slice(0, 900), '9 9/2 1', '1 5/1 1']) drawn.add(drawopOf(`draw ${name} 5 line 0 0 1 1 *`));
   telling.reported.tell({ source: 9, page: '6/1', seq: 1 });
   await telling.tellPages();
-  check('the page in view, ours, and those of members and of which they tell', [member.pages.page, member.pages.pages.slice(0, 4).map((one) => one.page)], ['7/1', ['5/1', '6/1', '7/1', '9/2']]);
-  check('then those of strangers', [member.pages.pages.length, member.pages.pages.at(-1), host.told], [904, { page: '0/900', drawn: 1 }, []]);
+  check('the page in view, ours, and those of members and of which they tell', [member.pages.page, member.pages.pages.slice(0, 4).map((one) => one.page)], ['7/1', ['5/1', '9/2', '6/1', '7/1']]);
+  check('then those of strangers', [member.pages.pages.length, member.pages.pages.at(-1), host.told], [904, { page: '0/900', drawn: 1, last: '5' }, []]);
   for (const name of names) drawn.add(drawopOf(`draw ${name} 5 line 0 0 1 1 *`));
   host.said.list = ['list 1000', '1 5/1 1'.replace('/', ' '), '9 2 1', ...names.slice(501).map((name) => name.split(' ')[1].replace('/', ' ') + ' 1')];
   await telling.tellPages();
@@ -448,7 +458,7 @@ async function testMembers() {
   check('by their numbers', [member.members.members.length, member.members.members.slice(-2)], [500, [{ member: 500, delay: null, heard: 0 }, { member: 900, delay: 0.002, heard: 0 }]]);
 }
 
-const TESTS = [testOrigins, testReports, testWarnings, testClash, testRefused, testRecord, testHeard, testMoves, testFollowed, testPatience, testTime, testRoom, testKeptCells, testWaiting, testNewPage, testLast, testPages, testHealth, testShowings, testMembers];
+const TESTS = [testOrigins, testReports, testWarnings, testClash, testRefused, testRecord, testHeard, testMoves, testNear, testFollowed, testPatience, testTime, testRoom, testKeptCells, testWaiting, testNewPage, testLast, testPages, testHealth, testShowings, testMembers];
 
 export async function testJudging() {
   for (const test of TESTS) await test();

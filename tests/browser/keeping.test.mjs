@@ -336,13 +336,13 @@ async function testNames(program) {
 // ---- a session
 
 /** A member that loses a third of what comes, by a network of this process. */
-async function memberOf(program, network, me, record, mayHaveDrawn = false, place = me) {
+async function memberOf(program, network, me, record, mayHaveDrawn = false, place = me, more = {}) {
   const inbox = new Inbox(), told = {};
   inbox.worse = { lose: 0.33, delay: 0, twice: 0, mix: false };
   const origin = { place: `wb/${place}`, owner: null };
   const transport = { where: 'here', state: '', here: null, strangers: null, goneBy: () => origin, end: () => network.delete(place),
     send: (bytes) => { for (const [other, take] of network) if (other !== place) take(bytes, origin); } };
-  const member = new Member(program, record, me, inbox, transport, { notice: '', teach: false, start: { ...START, cells: 1_000, mayHaveDrawn } }, (name, news) => { told[name === 'change' ? 'board' : name] = name === 'change' ? changed(told.board, news) : news; });
+  const member = new Member(program, record, me, inbox, transport, { notice: '', teach: false, start: { ...START, cells: 1_000, mayHaveDrawn }, ...more }, (name, news) => { told[name === 'change' ? 'board' : name] = name === 'change' ? changed(told.board, news) : news; });
   network.set(place, (bytes, from) => member.take(bytes, from));
   await member.open();
   Object.assign(member, { told, running: member.run() });
@@ -450,5 +450,30 @@ async function testTwins(program) {
   await alone.end();
 }
 
+/** Somebody who hears us speaks under our number and echoes us. We draw on by a new one with all that is held, eight times in an hour. */
+async function testForgedTwin(program) {
+  const network = new Map(), heard = [], begun = [], eve = { place: 'wb/eve', owner: null };
+  network.set('ear', (bytes) => heard.push(readDatagram(bytes)));
+  const fresh = async () => { const me = 20 + begun.length; return { me, record: new Record(null, 'here', me) }; };
+  const member = await memberOf(program, network, 11, new Record(null, 'here', 11), false, 'a', { fresh, begun: () => begun.push(member.me) });
+  const speakFor = async (me) => {
+    heard.length = 0;
+    const isOurs = ({ kind, speaker }) => kind === 'session-message' && speaker === me;
+    await comes(() => heard.some(isOurs), 20);
+    const [, , sent] = heard.findLast(isOurs).words.split(' '), [forged] = await bytesOf(program, `session-message ${me} 9 1/1 ${me}@${sent}+1`);
+    for (let i = 0; i < 9; i += 1) member.take(forged, eve);
+  };
+  await member.people.draw(PAGE, 'line 0 0 4 0 x');
+  await speakFor(11);
+  check('a new number', [await comes(() => member.me === 20), begun, member.judging.hasTwin], [true, [20], false]);
+  check('by which one draws', await member.people.draw(PAGE, 'line 0 1 4 1 x'), { source: 20, seq: 1 });
+  check('with all that is held', [(await viewOf(member.board)).map(({ source }) => source), member.alarms.told()], [[11, 20], ['somebody else spoke under our number 11: we draw on as member 20']]);
+  member.parted = Array(8).fill(performance.now());
+  await speakFor(20);
+  check('but not so often', [await comes(() => member.judging.hasTwin), await member.people.draw(PAGE, 'line 0 2 4 2 x').catch(({ message }) => message), member.me], [true, 'another member has our number: take a new one', 20]);
+  check('until people want it', [await member.people.call(() => member.takeNumber()), (await member.people.draw(PAGE, 'line 0 2 4 2 x')).source], [{ me: 21 }, 21]);
+  await member.end();
+}
+
 const program = new Program(await WebAssembly.compile(fs.readFileSync(file)), false);
-for (const each of [testOld, testLines, testBegun, testMarks, testClock, testDraw, testShowing, testNoRoom, testOneSync, testEnds, testStarts, testBefore, testOwnMarks, testRoom, testPageInView, testTime, testNames, testSession, testStrangers, testTail, testTwins]) test(each.name.slice('test'.length), () => each(program));
+for (const each of [testOld, testLines, testBegun, testMarks, testClock, testDraw, testShowing, testNoRoom, testOneSync, testEnds, testStarts, testBefore, testOwnMarks, testRoom, testPageInView, testTime, testNames, testSession, testStrangers, testTail, testTwins, testForgedTwin]) test(each.name.slice('test'.length), () => each(program));

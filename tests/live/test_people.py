@@ -6,9 +6,10 @@ from functools import partial
 from types import SimpleNamespace
 from typing import Any, Callable, List, Tuple
 
+from live.alarms import Alarms
 from live.drawn import Drawn
 from live.kept import Kept
-from live.member import Member
+from live.member import PARTED_LATELY, Member
 from live.people import People, Refused
 from live.telling import Reported
 from live.views import Drawop, Page
@@ -93,12 +94,42 @@ def test_new_page(facts: Facts) -> None:
     facts("one that is empty yet", (people.new_page(), turned), ({"page": "7/9"}, [(7, 2), (7, 4), (7, 4), (7, 9)]))
 
 
+def test_parting(facts: Facts) -> None:
+    """If somebody else has our number, we take another by ourselves, eight times in an hour, unless the words name the number."""
+    taken: List[int] = []
+    alarms = Alarms()
+    member: Any = SimpleNamespace(me=7, options=SimpleNamespace(me=None), parted=[], alarms=alarms)
+
+    def renumber() -> None:
+        if len(taken) == 7:
+            raise Refused("no new number: its record can't be written")
+        taken.append(member.me)
+        member.me += 1
+
+    member.people = SimpleNamespace(renumber=renumber)
+    for _ in range(8):
+        facts("it may", Member.may_part(member), True)
+        Member.part(member)
+    facts("not once more, where the record had no room either", (Member.may_part(member), taken), (False, [7, 8, 9, 10, 11, 12, 13]))
+    facts("it says so, and why not", (alarms.told()[-2:]), ["somebody else spoke under our number 13: we draw on as member 14", "no new number: its record can't be written"])
+    member.parted = [at - PARTED_LATELY for at in member.parted]
+    facts("an hour later it may again", Member.may_part(member), True)
+    member.options.me = 7
+    facts("not if the words name the number", Member.may_part(member), False)
+
+
 def test_undo(facts: Facts) -> None:
     """What we drew last is deleted, wherever its time puts it: of drawings that the host shows on the page in view."""
     deleted: List[Any] = []
     shown = {PAGE: [(7, PAGE, 2), (7, PAGE, 1), (8, PAGE, 4)], (7, 2): [(7, (7, 2), 5)]}
-    member: Any = SimpleNamespace(me=7, page=PAGE, board=SimpleNamespace(view=shown.__getitem__), is_ready=True)
+    member: Any = SimpleNamespace(me=7, former=[], page=PAGE, board=SimpleNamespace(view=shown.__getitem__))
     people = People(member)
     people.draw_now = lambda page, operation: deleted.append((page, operation)) or Drawop("draw 7 7/1 9 10 delete 7 2")  # type: ignore[assignment, func-returns-value, misc]
     people.undo_now()
     facts("the greatest number of ours that is shown", deleted, [(PAGE, "delete 7 2")])
+    member.me, member.former = 9, [8, 7]
+    people.undo_now()
+    facts("also of what we drew under the number before", deleted[1:], [(PAGE, "delete 7 2")])
+    member.me, member.former = 8, [7]
+    people.undo_now()
+    facts("but first under that of now", deleted[2:], [(PAGE, "delete 8 4")])

@@ -70,7 +70,8 @@ def check_keeping(facts: Facts, member: Process) -> None:
     script = "/%s/%s" % (member.token, script_of(member.get_page()[1]))
     told: List[Tuple[int, Optional[str], Optional[str], int]] = []
     used = set()
-    for path, headers in (("/%s/" % member.token, {}), (script, {}), (script, {"Accept-Encoding": "gzip, br"})):
+    cases: List[Tuple[str, Dict[str, str]]] = [("/%s/" % member.token, {}), (script, {}), (script, {"Accept-Encoding": "gzip, br"})]
+    for path, headers in cases:
         connection.request("GET", path, headers=headers)
         answer = connection.getresponse()
         body, tag = answer.read(), answer.getheader("ETag") or ""

@@ -26,14 +26,17 @@ def test_tabs(tally: Tally, browser: Browser, member: Member) -> None:
 
 
 def test_twin(tally: Tally, room: Path, browser: Browser, one: Sheet, member: Member, ports: int) -> None:
-    """Another member with our number: the page says so, and takes a new one."""
+    """Another member with our number: the page goes on by a new one, and says so."""
     words = [str(TOP / "wb-live"), "--ports", str(ports), "--no-web", "--no-terminal", "--me", str(member.number), "--record", str(room / "twin.wb")]
     twin = subprocess.Popen(words, cwd=room, stdin=subprocess.DEVNULL, stdout=subprocess.DEVNULL)
     try:
-        tally.check("a twin is told", one.page.wait("!document.getElementById('twin').hidden"))
-        tally.check("nothing is drawn", one.page.value("wb.session.send('line 0 30 7 30 =').then((answer) => answer.ok)") is False)
-        one.page.value("document.getElementById('renumber').click()")
+        one.page.value("localStorage.setItem('wb-name', 'Ada')")
         tally.check("a new number is taken", one.page.wait(f"wb.session.hello.me !== {member.number} && wb.session.hello.ready && document.getElementById('twin').hidden"))
+        tally.check("which is told", one.page.wait(f"document.getElementById('warnings').textContent.includes('somebody else spoke under our number {member.number}')"))
+        tally.check("one's name goes along", one.page.wait("wb.session.called.get(wb.session.hello.me) === 'Ada'"))
+        taken = one.page.value("wb.session.hello.me")
+        one.page.value("document.getElementById('renumber').click()")
+        tally.check("and to one that people want", one.page.wait(f"wb.session.hello.me !== {taken} && wb.session.called.get(wb.session.hello.me) === 'Ada'"))
         tally.check("by it one draws", one.page.value("wb.session.send('line 0 30 7 30 =').then((answer) => answer.ok)") is True)
     finally:
         twin.terminate()

@@ -10,7 +10,10 @@ import { Grid } from '../../live/ui/grid.js';
 import { readInk } from '../../live/ui/ink.js';
 import { itemAt, meets } from '../../live/ui/inkfind.js';
 import { itemsOf } from '../../live/ui/inkitems.js';
+import { momentsOf, rowsOf, shownAt } from '../../live/ui/history.js';
+import { placed } from '../../live/ui/inkwriting.js';
 import { Layout } from '../../live/ui/layout.js';
+import { calledBy, isGone, leavesOf } from '../../live/ui/leaves.js';
 import { initialsOf, readNotes, spoken } from '../../live/ui/notes.js';
 import { readBeside, viewLine } from '../../live/ui/points.js';
 import { gripAt, gripsOf, stretchOf, stretched } from '../../live/ui/resizing.js';
@@ -159,6 +162,43 @@ function testLetters() {
   check('names and titles', (({ names, titles }) => [...names.values(), ...titles.values()])(readNotes(['name~ J~#Brgen', 'title~ 1/1 ~#B', 'title~ x', 'name~ ~~'].map(at))), ['J\u00fcrgen', '\u00fc']);
   check('what is seen by nobody is left out', readNotes(spoken('name', '', 'a\u202eb\u200dc\u0085d').map(at)).names.get(1), 'ab\u200dcd');
   check('a colour has no letters', readNotes(['colour~ 3', 'next~ x'].map(at)), readNotes([at('x', 1)]));
+}
+
+/** The pages that are listed, in the order that all agree on. */
+function testLeaves() {
+  const pages = ['1/1', '7/1', '9/3', '8/1'].map((page, i) => ({ page, drawn: i === 3 ? 0 : 2, last: String(10 * i) })), all = [{ page: '0/0', drawn: 9 }, ...pages];
+  const word = (seq, letters) => named(text(0, seq, letters), seq), ordered = (...words) => readNotes(words.map((letters, i) => word(i + 1, letters)));
+  const listed = (inView, ...words) => leavesOf(all, ordered(...words), inView).map(({ page }) => page).join(' ');
+  check('as they were begun, but for the reserved one', listed('1/1'), '1/1 7/1 9/3 8/1');
+  check('one is put behind another, and another first', [listed('1/1', 'place 1/1 9/3'), listed('1/1', 'place 1/1 9/3', 'place 9/3 0/0')], ['7/1 9/3 1/1 8/1', '9/3 7/1 1/1 8/1']);
+  check('what names no page, or itself, moves nothing', listed('1/1', 'place 1/1 5/5', 'place 5/5 1/1', 'place 1/1 1/1', 'place 1/1', 'place x 1/1'), '1/1 7/1 9/3 8/1');
+  check('a deleted page is not listed unless it is in view', [listed('1/1', 'gone 7/1'), listed('7/1', 'gone 7/1'), listed('1/1', 'gone 7/1 x')], ['1/1 7/1 9/3 8/1', '1/1 7/1 9/3 8/1', '1/1 7/1 9/3 8/1']);
+  const told = { places: [['9/3', '7/1'], ['1/1', '9/3']], gone: new Map([['7/1', [{ time: '10' }]], ['9/3', [{ time: '19' }]]]) };
+  check('what was drawn after it was deleted is', leavesOf(pages, told, '8/1').map(({ page }) => page), ['9/3', '1/1', '8/1']);
+  check('by the last time', [isGone(pages[1], told.gone), isGone(pages[2], told.gone), isGone(pages[0], told.gone)], [true, false, false]);
+  check('pages by their places', ['1/1', '9/3', '8/1', '5/5'].map((page) => calledBy(pages, page)), ['Page 1', 'Page 3', 'New page', 'New page']);
+  check('the first page of an empty board', calledBy([{ page: '1/1', drawn: 0 }], '1/1'), 'Page 1');
+}
+
+/** What was erased, a row for each step. */
+function testErased() {
+  const ink = (seq, source, isAgain = false) => ({ ...placed('~s$1!hV#HJ', seq, isAgain), source, seq, time: String(1e6 * seq) });
+  const erased = (drawing, by, seq, at, before = null) => ({ ...drawing, erased: [by, seq, String(at), before] });
+  const rows = (drawops, ...hidden) => rowsOf({ page: '1/1', drawops, hidden, rows: [] }).map(({ by, at, drawings }) => [by, at, drawings.map(({ seq }) => seq)]);
+  const three = [1, 2, 3].map((seq) => erased(ink(seq, 7), 8, 10 + seq, 9e6 + seq * 1e5, seq === 1 ? null : 'delete'));
+  check('what one erased at once is one row, by who erased', rows([], ...three), [[8, 9.1e6, [1, 2, 3]]]);
+  check('one that was restored since is missing in it', rows([ink(2, 7)], three[0], three[2]), [[8, 9.1e6, [1, 3]]]);
+  check('later it is another one, which comes first', rows([], three[0], erased(ink(4, 7), 8, 12, 11e6, 'delete')), [[8, 11e6, [4]], [8, 9.1e6, [1]]]);
+  check('after something else it is another one', rows([], three[0], erased(ink(4, 7), 8, 13, 9.2e6, 'text')), [[8, 9.2e6, [4]], [8, 9.1e6, [1]]]);
+  check('of two members two', rows([], three[0], erased(ink(4, 7), 9, 12, 9.1e6, 'delete')).length, 2);
+  check('what was moved was not erased', rows([ink(5, 8, true)], erased(ink(1, 7), 8, 6, 6e6, 'text'), erased(ink(2, 7), 8, 7, 6e6, 'delete')), []);
+  check('nor is what an undo put back', rows([ink(1, 7)], erased(ink(5, 8, true), 8, 9, 9e6, 'restore')), []);
+  check('what is left of an erased item was drawn new', rows([ink(5, 8)], erased(ink(1, 7), 8, 6, 6e6, 'text')), [[8, 6e6, [1]]]);
+  const far = { ...line(2, 2, 6, 2), source: 8, seq: 5, time: '5' };
+  check('a line of cells that was moved', [rows([far], erased({ ...line(1, 1, 5, 1), source: 7, seq: 1, time: '1' }, 8, 6, 6, 'line')), rows([far], erased({ ...line(1, 1, 6, 1), source: 7, seq: 1, time: '1' }, 8, 6, 6, 'line')).length], [[], 1]);
+  const board = { page: '1/1', drawops: [ink(4, 7)], hidden: three, rows: [] };
+  check('the page as it was', [0, 1.5, 5, 9.15, 9.5].map((at) => shownAt(board, at * 1e6).map(({ seq }) => seq).sort().join('')), ['', '1', '1234', '234', '4']);
+  check('its moments, of a second one', momentsOf(board), [1e6, 2e6, 3e6, 4e6, 9.3e6]);
 }
 
 /** What the member says of itself, in words for everyone. */
@@ -335,5 +375,5 @@ async function testAskedAgain() {
   }
 }
 
-for (const each of [testSession, testBeside, testGrid, testChanges, testNotes, testLetters, testStretch, testState, testExports,
+for (const each of [testSession, testBeside, testGrid, testChanges, testNotes, testLetters, testLeaves, testErased, testStretch, testState, testExports,
   testFilm, testCells, testShapes, testTexts, testWords, testColours, testLayout, testFlood, testOrder, testLateAnswers, testAskedAgain]) test(each.name.slice('test'.length), each);

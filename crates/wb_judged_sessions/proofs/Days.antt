@@ -36,7 +36,7 @@ use Rattle.wb_judging.proofs.Histories.{fresh_is_new}
 use Rattle.wb_laws_sessions.proofs.Acts.{held_after}
 use Rattle.wb_laws_sessions.proofs.Room.{with_room}
 use Rattle.wb_laws_sessions.proofs.Sending.{one_of}
-use Rattle.wb_laws_sessions.specs.Drawn.{new_where}
+use Rattle.wb_laws_sessions.specs.Members.{new_where}
 use Rattle.wb_kept_progress.proofs.Onward.{call_later}
 use Rattle.wb_kept_progress.proofs.Performed.{adds_begin}
 use Rattle.wb_kept_progress.proofs.StillCalls.{came_now, no_ticks_stand}

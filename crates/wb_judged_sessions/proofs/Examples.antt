@@ -22,7 +22,7 @@ use Rattle.wb_judging.specs.declared.call.Call.TheVariants.{CameFrom, Held, Pass
 use Rattle.wb_judging.specs.Laws.{drawops_of}
 use Rattle.wb_judging.specs.Performing.{after_kept_line, sent_by_kept_line}
 use Rattle.wb_judging.specs.declared.record.RecordLine.{RecordLine}
-use Rattle.wb_laws_sessions.specs.Sessions.{AreApart}
+use Rattle.wb_laws_machines.specs.Honest.{AreApart}
 use Rattle.wb_laws_sessions.proofs.Sending.{one_of}
 use Rattle.wb_judged_sessions.specs.Examples.{IsShared, again, at, deletes, drawing, drawn, both_started, file, heard, numbers, one_started, page, somewhere, start}
 use Rattle.wb_judged_sessions.specs.Sessions.{JudgedCall, JudgedCallAt, Start, Starts, Takes, Tunes, WasHeld, drawn_at, judged_at}

@@ -14,7 +14,7 @@ use Rattle.wb_judge.specs.declared.verdict.Why.{Why}
 use Rattle.wb_progress.specs.Turns.{Terms, settled_by}
 use Rattle.wb_member.specs.Judged.{is_full}
 use Rattle.wb_member.specs.Opened.{Opened}
-use Rattle.wb_keeping.specs.Laws.{Added, Came, KeptLine, Tuned, doing_of}
+use Rattle.wb_keeping.specs.Laws.{Added, Came, KeptLine, doing_of}
 use Rattle.wb_keeping.specs.Performing.{Keeping, due, sent_by_doing}
 use Rattle.wb_judging.specs.Echoing.{echoing}
 use Rattle.wb_judging.specs.Handing.{handed, handed_for, verdict_on}
@@ -30,7 +30,8 @@ use Rattle.wb_judging.proofs.MembersIn.{needed_is_handed_in}
 use Rattle.wb_judging.proofs.Numbers.{me_judging}
 use Rattle.wb_laws_kept.specs.Sessions.{CallAt, Handed, kept_at}
 use Rattle.wb_kept_progress.specs.Since.{IsHandedIn, IsSpared, IsTimelyWithStarts, WasSentBy as WasKeptSent, called_at as kept_called_at}
-use Rattle.wb_judged_sessions.specs.Sessions.{JudgedCall, JudgedCallAt, Starts, Takes, Tunes, judged_at, kept_calls, plain, plain_line}
+use Rattle.wb_judged_sessions.specs.Sessions.{JudgedCall, JudgedCallAt, Starts, Takes, Tunes, judged_at, kept_calls, plain_line}
+use Rattle.wb_laws_machines.specs.Maps.{plain}
 use Rattle.wb_judged_sessions.specs.Terms.{AreTaken, IsLineTaken, IsTaken}
 use Rattle.wb_judged_sessions.specs.Timely.{AreInOrder, Arrives, IsNoStart, IsTimely, JudgedIsTimely}
 use Rattle.wb_judged_sessions.proofs.Drawn.{DrawsNone, came_draws}
@@ -327,7 +328,7 @@ module _ (numbers : ℕ → ℕ) (terms : Terms) (calls : List JudgedCallAt) (s 
     taken = taken_kept numbers calls s.taken;
     order = order_kept numbers calls s.order;
     covered = s.covered;
-    far = s.far;
+    delays = s.delays;
     fitting = λ i live. fit_kept numbers terms i calls (s.fitting i live);
     alone = λ newer older e split late. alone_kept newer older e split late;
     drawn = λ newer older e now page time op split late is. drawn_kept newer older e split late now page time op is;

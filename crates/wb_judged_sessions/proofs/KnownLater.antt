@@ -34,7 +34,8 @@ use Rattle.wb_judging.proofs.NewsTold.{leaves_others}
 use Rattle.wb_kept_progress.proofs.CallParts.{due_by_report}
 use Rattle.wb_judged_sessions.specs.Known.{ComeInTime, Comes, JudgedStayKnown, KnowEachOther, KnownBecomeWhole, moment_by, until}
 use Rattle.wb_judged_sessions.specs.Knowing.{HasRoom, IsKnownSince, LeavesKnown}
-use Rattle.wb_judged_sessions.specs.Sessions.{JudgedCall, JudgedCallAt, Starts, Takes, Tunes, after_call, judged_at, plain}
+use Rattle.wb_judged_sessions.specs.Sessions.{JudgedCall, JudgedCallAt, Starts, Takes, Tunes, after_call, judged_at}
+use Rattle.wb_laws_machines.specs.Maps.{plain}
 use Rattle.wb_judged_sessions.specs.Terms.{AreTaken, IsLineTaken}
 use Rattle.wb_judged_sessions.specs.Timely.{AreFittingSince, AreInOrder, Arrives, IsFittingSince, IsNoStart, IsTimely, called_at}
 use Rattle.wb_judged_sessions.proofs.Clocks.{due_at, present_at}
@@ -606,7 +607,7 @@ module _ (numbers : ℕ → ℕ) (origins : ℕ → ℕ → Origin) (terms : Ter
     taken = s.taken;
     order = s.order;
     covered = s.covered;
-    far = s.far;
+    delays = s.delays;
     fitting = s.fitting;
     alone = s.alone;
     drawn = s.drawn;

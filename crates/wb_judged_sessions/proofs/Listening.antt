@@ -24,7 +24,8 @@ use Rattle.wb_laws_kept.specs.Sessions.{Begins, CallAt, Handed, kept_at}
 use Rattle.wb_laws_kept.proofs.Listening.{listening_tells as kept_listening_tells}
 use Rattle.wb_laws_sessions.proofs.Sending.{one_of}
 use Rattle.wb_judged_sessions.specs.Laws.{HasNotStarted, ListeningTells}
-use Rattle.wb_judged_sessions.specs.Sessions.{JudgedCall, JudgedCallAt, Start, Starts, Takes, Tunes, judged_at, kept_calls, kept_then, lines_then, plain, plain_line, started}
+use Rattle.wb_judged_sessions.specs.Sessions.{JudgedCall, JudgedCallAt, Start, Starts, Takes, Tunes, judged_at, kept_calls, kept_then, lines_then, plain_line, started}
+use Rattle.wb_laws_machines.specs.Maps.{plain}
 use Rattle.wb_judged_sessions.proofs.Kept.{at, judged_is_kept}
 
 -- ---- the same of a datagram without the echo

@@ -24,7 +24,7 @@ use Rattle.wb_laws_kept.proofs.Honest.{kept_are_honest, moments_given, number_of
 use Rattle.wb_laws_kept.proofs.Replaying.{lines_stay, none}
 use Rattle.wb_laws_kept.specs.Sessions.{steps_of}
 use Rattle.wb_laws_sessions.proofs.Drawn.{numbers_count}
-use Rattle.wb_laws_sessions.proofs.Names.{at_most_highest}
+use Rattle.wb_laws_machines.proofs.Names.{at_most_highest}
 use Rattle.wb_laws_sessions.specs.Drawn.{AreHonest}
 use Rattle.wb_judged_sessions.specs.Laws.{BoardsAreFiles, FilesAreWhole, RecordsTell}
 use Rattle.wb_judged_sessions.specs.Sessions.{Holds, JudgedCall, JudgedCallAt, Start, Starts, Takes, Tunes, after_call, drawn_at, drawn_by, drawn_by_line, judged_at, kept_calls, started}

@@ -41,9 +41,10 @@ use Rattle.wb_laws_kept.proofs.Agreeing.{steps_split}
 use Rattle.wb_laws_kept.proofs.Steps.{kept_is_session}
 use Rattle.wb_laws_sessions.specs.Drawn.{WasHeld as HeldBySteps}
 use Rattle.wb_laws_sessions.specs.Sessions.{Step, host_at}
+use Rattle.wb_laws_kept.specs.Kept.{gained_by_line}
 use Rattle.wb_judged_sessions.specs.Laws.{JudgedKeepKeptTerms}
 use Rattle.wb_judged_sessions.specs.Sessions.{JudgedCall, JudgedCallAt, Start, Starts, Takes, Tunes, WasHeld, after_call, judged_at, kept_calls, kept_then, lines_then, plain_line, started}
-use Rattle.wb_judged_sessions.specs.Terms.{AreLinesTaken, AreTaken, DrawopsWereHeld, IsLineTaken, IsTaken, KnowTheirOwn, KnowsItsOwn, brought_by, came_in}
+use Rattle.wb_judged_sessions.specs.Terms.{AreLinesTaken, AreTaken, DrawopsWereHeld, IsLineTaken, IsTaken, KnowTheirOwn, KnowsItsOwn, brought_by}
 use Rattle.wb_judged_sessions.proofs.Drawn.{DrawNone, DrawsNone, came_draws, draws_as_kept, plain_draws, record_draws}
 use Rattle.wb_judged_sessions.proofs.Kept.{at, calls_split, judged_is_kept}
 use Rattle.wb_judged_sessions.proofs.Listening.{not_begun}
@@ -92,6 +93,9 @@ unfolding after_kept_line
 record_taken [] h taken = tt
 record_taken (line ∷ given) h taken = (taken.0, record_taken given (after_judged (Held line) h) taken.1)
 
+pub in_range : (constants : Tuning) (k : Keeping) → are_constants constants ≡ true → fault_of (Tuned constants) k ≡ None
+in_range constants k is = ap (λ (b : Bool). fault_unless b (Host Range)) is
+
 module _ (numbers : ℕ → ℕ) (time place : ℕ) where
   abbrev pub begins : Start → CallAt
   begins start = record { time = time; place = place; call = Begins start.opening [] }
@@ -110,9 +114,6 @@ module _ (numbers : ℕ → ℕ) (time place : ℕ) where
   started_is h older start same =
       ap (λ (k : Keeping). opened k.host.is.number start.opening) same
       ∙ ap (λ (b : Bool). cond b (opened (kept_at numbers older place).host.is.number start.opening) (kept_at numbers older place)) (sym (eq-eqb place place refl))
-
-  in_range : (constants : Tuning) (k : Keeping) → are_constants constants ≡ true → fault_of (Tuned constants) k ≡ None
-  in_range constants k is = ap (λ (b : Bool). fault_unless b (Host Range)) is
 
   call_taken : (call : JudgedCall) (h : Judged) (older : List CallAt) → h.kept ≡ kept_at numbers older place → IsOwn h → IsTaken call h → AreKeptTaken numbers older
       → AreKeptTaken numbers (kept_then time place call h older)
@@ -157,17 +158,17 @@ module _ (numbers : ℕ → ℕ) where
       subst (λ (s : List Step). HeldBySteps numbers s d) (sym split.1) (longer split.0 (steps_of numbers older) d w)
 
 abbrev came_by : KeptCall → List DrawopValue
-came_by (Handed line) = came_in line
+came_by (Handed line) = gained_by_line line
 came_by (Begins o given) = []
 
 abbrev all_came : List KeptLine → List DrawopValue
 all_came [] = []
-all_came (line ∷ lines) = came_in line ++ all_came lines
+all_came (line ∷ lines) = gained_by_line line ++ all_came lines
 
 not_handed : (start o : Opening) (given : List Datagram) (line : KeptLine) → Begins o given ≡ Handed line → ⊥
 not_handed start o given line e = cc
 
-recalled_came : (now : ℕ) (line : RecordLine) → came_in (recalled now line) ≡ drawops_in line
+pub recalled_came : (now : ℕ) (line : RecordLine) → gained_by_line (recalled now line) ≡ drawops_in line
 recalled_came now (Tick past) = refl
 recalled_came now (Said d) = refl
 recalled_came now (Known d) = refl
@@ -181,7 +182,7 @@ record_came (line ∷ given) h =
     ∙ ap (λ (ds : List DrawopValue). drawops_in line ++ ds) (record_came given (after_judged (Held line) h))
 
 module _ (numbers : ℕ → ℕ) (time place : ℕ) where
-  came_held : (line : KeptLine) (older : List CallAt) → ((d : DrawopValue) → Contains (came_in line) d → HeldBySteps numbers (steps_of numbers older) d) → WereHeld numbers older (at time place line)
+  came_held : (line : KeptLine) (older : List CallAt) → ((d : DrawopValue) → Contains (gained_by_line line) d → HeldBySteps numbers (steps_of numbers older) d) → WereHeld numbers older (at time place line)
   came_held line older were = record {
     handed = λ now d e. were d (subst (λ (call : KeptCall). Contains (came_by call) d) (sym e) (Contains-here d []));
     given = λ o given d e c. absurd (not_begun line o given e);
@@ -200,8 +201,8 @@ module _ (numbers : ℕ → ℕ) (time place : ℕ) where
       → KeptDrawopsWereHeld numbers (lines_then time place lines older)
   lines_held [] older were rest = rest
   lines_held (line ∷ lines) older were rest =
-      lines_held lines (at time place line ∷ older) (λ d c. later numbers (at time place line) older d (were d (Contains-append_right (came_in line) (all_came lines) d c)))
-      (came_held line older (λ d c. were d (Contains-append_left (came_in line) (all_came lines) d c)), rest)
+      lines_held lines (at time place line ∷ older) (λ d c. later numbers (at time place line) older d (were d (Contains-append_right (gained_by_line line) (all_came lines) d c)))
+      (came_held line older (λ d c. were d (Contains-append_left (gained_by_line line) (all_came lines) d c)), rest)
 
   call_held : (call : JudgedCall) (h : Judged) (older : List CallAt) → ((d : DrawopValue) → Contains (brought_by call h) d → HeldBySteps numbers (steps_of numbers older) d)
       → KeptDrawopsWereHeld numbers older

@@ -23,7 +23,7 @@ use Rattle.wb_judging.specs.declared.record.RecordLine.{RecordLine}
 use Rattle.wb_laws_kept.specs.Openings.{Opening, opened_host}
 use Rattle.wb_laws_kept.specs.Sessions.{Begins, CallAt, Handed, kept_at, steps_of}
 use Rattle.wb_laws_sessions.specs.Drawn.{drawn_at as drawn_by_steps}
-use Rattle.wb_laws_sessions.specs.Sessions.{unopened}
+use Rattle.wb_laws_sessions.specs.Members.{unopened}
 
 -- ---- members and their calls
 

@@ -1,12 +1,11 @@
 -- What is asked of a session of judged members, and of the records of their programs.
-use Rattle.std.specs.Prelude.{◌≡◌, ◌⊎◌, ℕ, ◌≤◌, true, List, [], ◌∷◌, ◌++◌, Contains, None, map, nat_eq, option_to_list, if◌then◌else◌}
+use Rattle.std.specs.Prelude.{◌≡◌, ◌⊎◌, ℕ, ◌≤◌, true, List, [], ◌∷◌, ◌++◌, Contains, None, map, nat_eq, if◌then◌else◌}
 use Rattle.wb_names.specs.Arrivals.{history_after}
 use Rattle.wb_names.specs.Values.{DrawopValue}
 use Rattle.wb_names.specs.declared.name.PageId.{PageId}
 use Rattle.wb_names.specs.declared.parts.Op.{Op}
 use Rattle.wb_recovery.specs.Timing.{are_constants}
 use Rattle.wb_member.specs.Opened.{last_number, present}
-use Rattle.wb_keeping.specs.Laws.{Added, Came, KeptLine, Ticked, Tuned}
 use Rattle.wb_judging.specs.Handing.{handed}
 use Rattle.wb_judging.specs.Judged.{Judged}
 use Rattle.wb_judging.specs.declared.call.Call.{Call}
@@ -16,8 +15,8 @@ use Rattle.wb_judging.specs.Performing.{after_judged}
 use Rattle.wb_judging.specs.Refusing.{draw_fault, held_fault}
 use Rattle.wb_judging.specs.declared.record.RecordLine.{RecordLine}
 use Rattle.wb_laws_kept.specs.Openings.{IsOpening}
-use Rattle.wb_laws_kept.specs.Restarts.{drawop_in}
-use Rattle.wb_laws_sessions.specs.Sessions.{AreApart}
+use Rattle.wb_laws_kept.specs.Kept.{gained_by_line}
+use Rattle.wb_laws_machines.specs.Honest.{AreApart}
 use Rattle.wb_judged_sessions.specs.Sessions.{JudgedCall, JudgedCallAt, Start, Starts, Takes, Tunes, WasHeld, drawn_at, judged_at, started}
 
 -- ---- no line is refused
@@ -49,15 +48,9 @@ AreTaken numbers (e ∷ older) =
 -- ---- what comes was held
 
 -- the drawops that a call hands in: of the record, or one that came and that the judge lets in
-abbrev pub came_in : KeptLine → List DrawopValue
-came_in (Came now v) = option_to_list (drawop_in v)
-came_in (Ticked now) = []
-came_in (Added now page time op) = []
-came_in (Tuned constants) = []
-
 abbrev pub brought_by : JudgedCall → Judged → List DrawopValue
 brought_by (Starts start given) h = drawops_of given
-brought_by (Takes line) h = came_in (handed line h)
+brought_by (Takes line) h = gained_by_line (handed line h)
 brought_by (Tunes constants) h = []
 
 -- Some member held each of them before: members send, hand on and record only what they hold. What

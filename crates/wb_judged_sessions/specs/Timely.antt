@@ -1,5 +1,5 @@
 -- By when all of a session has come to judged members, if from some time on nobody draws or starts, and nothing is lost.
-use Rattle.std.specs.Prelude.{◌≡◌, ◌≢◌, ℕ, ◌+◌, ◌<◌, ◌≤◌, ◌*◌, Bool, true, false, List, [], ◌∷◌, ◌++◌, Contains, nat_eq}
+use Rattle.std.specs.Prelude.{◌≡◌, ◌≢◌, ◌⊎◌, ℕ, ◌+◌, ◌<◌, ◌≤◌, ◌*◌, Bool, true, false, List, [], ◌∷◌, ◌++◌, Contains, nat_eq}
 use Rattle.wb_names.specs.Values.{NameValue}
 use Rattle.wb_names.specs.declared.name.PageId.{PageId}
 use Rattle.wb_names.specs.declared.parts.Op.{Op}
@@ -22,12 +22,12 @@ use Rattle.wb_judging.specs.Members.{IsOfMember}
 use Rattle.wb_judging.specs.Performing.{events_of}
 use Rattle.wb_judging.specs.declared.record.RecordLine.{RecordLine}
 use Rattle.wb_laws_kept.specs.Openings.{opened_host}
-use Rattle.wb_laws_sessions.specs.Sessions.{AreApart}
+use Rattle.wb_laws_machines.specs.Honest.{AreApart}
 use Rattle.wb_kept_progress.specs.Agreement.{LookAlike}
 use Rattle.wb_kept_progress.specs.Crowded.{crowded_by, spent_in}
 use Rattle.wb_kept_progress.specs.Filling.{OnlyHolesAreLacked, filled_by}
 use Rattle.wb_kept_progress.specs.Rounds.{OneLacksAtMost, PlacesAreFilled, rounds_by}
-use Rattle.wb_kept_progress.specs.Since.{IsTimelyWithStarts, hosts_of, since}
+use Rattle.wb_kept_progress.specs.Since.{GoByShortSince, IsTimelyWithStarts, hosts_of, since}
 use Rattle.wb_kept_progress.specs.Whole.{AreSoon, AreWithin, HolesAreHeld, IsHeldBySome, LackAtMost, NewAreKept, ReportWithin, Sizes, WaitAtMost, minute, request_span, whole_by}
 use Rattle.wb_judged_sessions.specs.Sessions.{JudgedCall, JudgedCallAt, Starts, Takes, Tunes, judged_at, kept_calls}
 use Rattle.wb_judged_sessions.specs.Terms.{AreTaken, IsSession}
@@ -97,7 +97,7 @@ pub record IsTimelyBy (Arrived : (newer base : List JudgedCallAt) (i j by : ℕ)
   pub taken : AreTaken numbers calls
   pub order : AreInOrder calls
   pub covered : terms.drift ≤ terms.late
-  pub far : MOST_DELAY ≤ terms.far
+  pub delays : (MOST_DELAY ≤ terms.far) ⊎ GoByShortSince numbers terms (kept_calls numbers calls)
   pub fitting : (i : ℕ) → Contains terms.live i → AreFittingSince terms numbers i calls
   pub alone : (newer older : List JudgedCallAt) (e : JudgedCallAt) → calls ≡ newer ++ e ∷ older → terms.quiet < e.time → Contains terms.live e.place × IsNoStart e.call
   pub drawn : (newer older : List JudgedCallAt) (e : JudgedCallAt) (now : ℕ) (page : PageId) (op : Op) → calls ≡ newer ++ e ∷ older → terms.quiet < e.time → e.call ≢ Takes (UserDrew now page op)
