@@ -249,6 +249,7 @@ class Board:
         try:
             if drawop:
                 drawop.digits = next(each for each in block.sent() if name_of(each) == drawop.name)
+                self.is_broken = True
                 keep(drawop)
             self.write(lines)
         except NoRoom:

@@ -1,7 +1,7 @@
 /** The eraser takes strokes from lift to lift. Of an item that keeps some, these are drawn anew, and then the item is deleted. */
 import { DAY, NIGHT } from './colours.js';
 import { isStroke } from './ink.js';
-import { itemsIn, partsAt } from './inkfind.js';
+import { partsAt } from './inkfind.js';
 import { boxAbout } from './inkpaint.js';
 import { CELL_WIDE, OWN } from './inksigns.js';
 import { placed, writeStroke } from './inkwriting.js';
@@ -23,7 +23,7 @@ export const reachOf = (view) => view.reach * (CELL_WIDE / view.wide);
 export function rub(gesture, hand, from, to) {
   const { ink, view } = hand.parts, near = reachOf(view), touched = (gesture.touched ??= new Map());
   const many = Math.max(1, Math.ceil(Math.hypot(from.x - to.x, from.y - to.y) / near));
-  for (const item of itemsIn(ink.items, boxAbout([from, to], near))) {
+  for (const item of ink.itemsIn(boxAbout([from, to], near))) {
     for (let k = 0; k <= many; k += 1) {
       const parts = partsAt(item, { x: from.x + ((to.x - from.x) * k) / many, y: from.y + ((to.y - from.y) * k) / many }, near);
       if (!parts.length) continue;

@@ -117,7 +117,7 @@ function take(gesture, hand, { isShifted }) {
     Object.assign(gesture, { grip, isMove: true });
     return;
   }
-  const item = itemAt(ink.items, at, reachOf(view)), isTaken = item !== undefined && hand.chosen.has(item, partsAt(item, at, reachOf(view)));
+  const item = ink.grid.itemAt(at, reachOf(view)), isTaken = item !== undefined && hand.chosen.has(item, partsAt(item, at, reachOf(view)));
   if (!isTaken && !isShifted) hand.selection.clear();
   if (item && isTaken && isShifted) hand.chosen.remove(item);
   else if (item && !isTaken) hand.chosen.add(item);
