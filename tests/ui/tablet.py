@@ -6,7 +6,7 @@ from pathlib import Path
 
 from ..live.browser import CONTROL, Browser
 from .classroom import class_of, stroke
-from .inks import at, draw
+from .inks import at
 from .sheets import Sheet, Tally
 
 ITEMS = "wb.ink.items.length"
