@@ -5,7 +5,7 @@ import { FIRST_ROW } from './inksigns.js';
 import { USUAL } from './view.js';
 
 /** Tools that one of the looks has not. */
-const OF_INK = ['ellipse', 'note', 'marker', 'hand'], OF_CELLS = ['block'];
+const OF_INK = ['ellipse', 'diamond', 'note', 'marker', 'hand'], OF_CELLS = ['block'];
 
 /** Points that stay free about everything, and beside what floats over the sheet. */
 const FREE = { across: 28, down: 20, beside: 16 };
