@@ -5,7 +5,6 @@ export class Record {
     path: string;
     isBroken: boolean;
     file: number;
-    /** What stands behind the last line feed was cut off, and nothing of it was sent. */
     size: number;
     lines: string[];
     /** Puts lines at the end, all or none; what this member drew is on the disk then. It throws where there is no room.

@@ -4,14 +4,14 @@ import { closeSync, fsyncSync, ftruncateSync, openSync, readFileSync, writeSync 
 import { dirname, resolve } from 'node:path';
 import { Answer, Host, LISTENING, Refused, anySeed } from './wb.js';
 
-/** How a record begins, the line of its board behind that, and the last line of a member that ended as it should. */
+/** How a record begins, the line of its board after that, and the last line of a member that ended as it should. */
 const FIRST_LINE = '# wb record 1', BOARD = /^board (\d{1,10}) (\d{1,5}) 1 (\d{1,20})$/, ENDED = '# ended';
 
 /** Moments of a host are below that. The clock of each start begins above the record, anywhere in one part in so many of those that are left, at one
  * that nobody guesses: who echoes a moment of ours has heard it. */
 const MOST_MOMENT = 2 ** 48, LEAD_PART = 512;
 
-/** Microseconds after which a host is told the time of day again. */
+/** Microseconds after which a host gets the time of day again. */
 const MINUTE = 60_000_000;
 
 /** A file that only grows. One process has it at a time. */
@@ -26,7 +26,7 @@ export class Record {
       closeSync(this.file);
       throw new Refused(path, 'it is no record');
     }
-    /** What stands behind the last line feed was cut off, and nothing of it was sent. */
+    // a last line without its line feed was cut off, and nothing of it was sent
     this.size = text.lastIndexOf('\n') + 1;
     ftruncateSync(this.file, this.size);
     this.lines = text.slice(0, this.size).split('\n').slice(0, -1);

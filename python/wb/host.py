@@ -121,7 +121,7 @@ class Host:
         self.ready_at = self.begun + listen  # from then on it may draw
 
     def keep_itself(self, rate: int, listen: int) -> None:
-        """Has it keep itself, once it has a board."""
+        """Makes it self-managing, once it has a board."""
         self.must("keep %d %d" % (rate, listen))
 
     def __enter__(self) -> Host:

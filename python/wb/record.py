@@ -15,7 +15,7 @@ from .child import ChildHost
 from .host import LISTENING, MOST_CELLS, AnyPage, Answer, Became, Host, Refused, page_of
 from .library import LibraryHost
 
-# how a record begins, the line of its board behind that, and the last line of a member that ended as it should
+# how a record begins, the line of its board after that, and the last line of a member that ended as it should
 FIRST_LINE = "# wb record 1"
 BOARD = re.compile("board ([0-9]{1,10}) ([0-9]{1,5}) 1 ([0-9]{1,20})")
 ENDED = "# ended"
@@ -25,7 +25,7 @@ ENDED = "# ended"
 MOST_MOMENT = 2**48
 LEAD_PART = 512
 
-# microseconds after which a host is told the time of day again
+# microseconds after which a host gets the time of day again
 MINUTE = 60_000_000
 
 
@@ -40,7 +40,7 @@ class Record:
             text = os.pread(self.file, os.fstat(self.file).st_size, 0)
             if not text.startswith(FIRST_LINE.encode()[:len(text)]):
                 raise Refused(path, "it is no record")
-            # what stands behind the last line feed was cut off, and nothing of it was sent
+            # a last line without its line feed was cut off, and nothing of it was sent
             self.size = text.rfind(b"\n") + 1
             os.ftruncate(self.file, self.size)
         except BaseException:
