@@ -281,13 +281,14 @@ class Kept:
             return False
         # One old timer may give way to another, or start anew, if less is owed than stands asked.
         is_covered = ahead <= (len(asked) - 1) * COST
-        first = name if name in asked else min(asked, key=lambda other: (-self.level(other), other), default=None)
-        if first is not None:
-            is_old = self.level(first) >= OLD and is_covered
-            if first == name and not (anew and is_old):
+        if name in asked:
+            if not (anew and self.level(name) >= OLD and is_covered):
                 return False
-            if is_old or len(asked) >= NAMES:
-                self.host.stop(first)
+            self.host.stop(name)
+        elif asked:
+            oldest = min(asked, key=lambda other: (-self.level(other), other))
+            if len(asked) >= NAMES or (self.level(oldest) >= OLD and is_covered):
+                self.host.stop(oldest)
         with self.lent(name.source):
             self.host.ask(name)
         self.owed = owed + COST
