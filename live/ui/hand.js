@@ -169,11 +169,11 @@ export class Hand {
   }
 
   /** One step that draws and then deletes, so that nothing is lost on the way.
-   * @param {Shape[]} shapes @param {Drawing[]} doomed */
-  change(shapes, doomed) {
+   * @param {Shape[]} shapes @param {Drawing[]} doomed @param {string} [page] */
+  change(shapes, doomed, page) {
     if (shapes.length + doomed.length === 0) return null;
     if (shapes.length > MOST_AT_ONCE) return tell(`Not drawn: over ${MOST_AT_ONCE} drawings at once.`), null;
-    const step = this.steps.begin();
+    const step = this.steps.begin(page);
     shapes.forEach((shape) => step.draw(shape.op === 'text' && inkOf(shape) ? this.placed(shape.text) : shape));
     doomed.forEach((drawing) => step.hide(drawing));
     return step;

@@ -71,9 +71,11 @@ export class Keys {
     return true;
   }
 
-  /** Drops what is begun, or else what is selected. */
+  /** Drops what is begun, else what is selected; else nobody is followed any more. */
   escape() {
-    if (!this.hand.gesture) this.hand.selection.clear();
+    const { gesture, selection, parts } = this.hand;
+    if (!gesture && !selection.size) parts.follow.stop();
+    if (!gesture) selection.clear();
     this.hand.drop();
   }
 
@@ -83,7 +85,7 @@ export class Keys {
     const { cursor } = this.hand, by = cursor.on ? (isFar ? 10 : 1) : 0;
     Object.assign(cursor, { on: true, x: clamp(cursor.x + dx * by, 0, SIDE - 1), y: clamp(cursor.y + dy * by, 0, SIDE - 1) });
     [this.hand.pointer, this.hand.point] = [null, null];
-    this.view.reveal(cursor);
+    if (this.view.reveal(cursor)) this.hand.parts.owner.take();
     this.hand.move({ x: cursor.x, y: cursor.y });
     say(this.acts.describe(cursor));
   }

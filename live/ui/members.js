@@ -1,6 +1,7 @@
 /** The parts of the panel: who is there, what was erased, how the network is, and how it is worsened. */
 import { $, make } from './dom.js';
 import { inkOf, isStroke } from './ink.js';
+import { renew, write } from './keyed.js';
 import { initialsOf } from './notes.js';
 
 /** @typedef {import('./whiteboard.js').Whiteboard} Whiteboard */
@@ -16,35 +17,43 @@ export function ago(seconds) {
 }
 
 /** @param {Whiteboard} board */
-export function showMembers({ session, painter, others, faces }) {
+export function showMembers({ session, painter, others, faces, follow }) {
   /** Where a member is, in words.
    * @param {Other} other @param {string} heard */
   const whereOf = ({ member }, heard) => {
-    const page = others.pageOf(member);
+    const page = others.pageOf(member), follows = others.points.get(member)?.beside.follows ?? null;
     if (member === session.hello.me) return 'you';
+    if (follows !== null) return `follows ${session.who(follows)}`;
     return page ? `on ${session.titleOf(page)}` : heard === 'now' ? 'here' : `heard ${heard}`;
   };
-  /** @param {number} member */
-  const follower = (member) => {
-    const button = make('button', faces.followed === member ? 'Following' : 'Follow');
-    button.setAttribute('aria-pressed', String(faces.followed === member));
-    button.addEventListener('click', () => faces.follow(member));
-    return button;
-  };
   /** @param {Other} other */
-  const row = (other) => {
-    const { member, delay, heard } = other, line = make('li'), words = make('div'), isMe = member === session.hello.me;
-    const seen = heard == null ? '' : ago(heard + (performance.now() - faces.heardAt) / 1000);
-    words.append(make('b', session.nameOf(member)), make('small', whereOf(other, seen)));
-    line.title = `member ${member}${isMe || delay == null ? '' : `, ${delay < 10 ? delay.toFixed(1) : Math.round(delay)} ms away, heard ${seen}`}`;
-    line.append(badge(painter, initialsOf(session.called.get(member), member), member), words, ...(isMe ? [] : [follower(member)]));
+  const row = ({ member }) => {
+    const line = make('li'), words = make('div'), button = make('button');
+    words.append(make('b'), make('small'));
+    button.addEventListener('click', () => follow.follow(follow.leader === member ? null : member));
+    line.append(badge(painter, '', member), words, button);
     return line;
   };
-  const show = () => {
-    const { members } = faces, more = members.length > MOST_MEMBERS ? [make('li', `and ${members.length - MOST_MEMBERS} more`)] : [];
-    if (!$('members').matches(':hover, :focus-within')) $('members').replaceChildren(...members.slice(0, MOST_MEMBERS).map(row), ...more);
+  /** @param {HTMLElement} line @param {Other} other */
+  const fill = (line, other) => {
+    const { member, delay, heard } = other, isMe = member === session.hello.me, [mark, words, button] = /** @type {any} */ (line.children);
+    const seen = heard == null ? '' : ago(heard + (performance.now() - faces.heardAt) / 1000), isFollowed = follow.leader === member;
+    line.title = `member ${member}${isMe || delay == null ? '' : `, ${delay < 10 ? delay.toFixed(1) : Math.round(delay)} ms away, heard ${seen}`}`;
+    write(mark, initialsOf(session.called.get(member), member));
+    mark.style.setProperty('--c', painter.tintOf(member));
+    write(words.firstChild, session.nameOf(member));
+    write(words.lastChild, whereOf(other, seen));
+    write(button, isFollowed ? 'Following' : 'Follow');
+    button.setAttribute('aria-pressed', String(isFollowed));
+    button.hidden = isMe;
   };
-  for (const name of ['members', 'notes', 'followed']) session.on(name, show);
+  const show = () => {
+    const { members } = faces;
+    renew($('members'), members.slice(0, MOST_MEMBERS), ({ member }) => member, row, fill);
+    write($('more-members'), members.length > MOST_MEMBERS ? `and ${members.length - MOST_MEMBERS} more` : '');
+    $('call').hidden = members.length < 2;
+  };
+  for (const name of ['members', 'notes', 'followed', 'presence']) session.on(name, show);
   setInterval(() => $('side').hidden || show(), 1000);
 }
 
@@ -73,8 +82,7 @@ export function showHealth({ session }) {
     $('counts').textContent = `sent ${counts.requests} requests and ${counts.repairs} repairs; ${counts.in} in, ${counts.out} out${more}`;
     $('warnings').replaceChildren(...warnings.slice(-MOST_WARNINGS).map((/** @type {string} */ warning) => make('li', warning)));
   });
-  session.on('link', (is) => is || setHealth('lost', 'wb-live does not answer'));
-  session.on('gone', () => setHealth('lost', 'wb-live was started anew: open the address that it printed'));
+  session.on('link', (link) => link === 'open' || setHealth('lost', link === 'gone' ? 'wb-live has another address now' : 'wb-live does not answer'));
   session.on('hello', ({ twin }) => { $('twin').hidden = !twin; });
   $('renumber').addEventListener('click', () => session.member.renumber?.());
 }

@@ -58,7 +58,7 @@ export class Pointing {
 
   startPan() {
     const { view } = this, middle = this.middle(), box = view.sheet.getBoundingClientRect();
-    this.hand.parts.sight.stay();
+    this.hand.parts.owner.take();
     this.hand.drop();
     this.pan = { ...middle, wide: view.wide,
       over: { x: view.left + (middle.x - box.left) / view.wide, y: view.top + (middle.y - box.top) / view.high } };
@@ -127,7 +127,7 @@ export class Pointing {
   /** @param {WheelEvent} event */
   wheel(event) {
     event.preventDefault();
-    this.hand.parts.sight.stay();
+    this.hand.parts.owner.take();
     const { view } = this, unit = event.deltaMode ? 1 : 1 / view.high, box = view.sheet.getBoundingClientRect();
     const [across, down] = event.shiftKey ? [event.deltaY, 0] : [event.deltaX, event.deltaY];
     if (event.ctrlKey) view.zoom(-event.deltaY * (event.deltaMode ? 0.2 : 0.01), { x: event.clientX - box.left, y: event.clientY - box.top });

@@ -74,7 +74,10 @@ export class Session {
     /** The first page that is shown: what is drawn before waits for it.
      * @type {Promise<string>} */
     this.opened = new Promise((open) => { this.open = open; });
-    this.isLinked = false;
+    /** Whether the member answers: what the page says of that goes by this alone.
+     * @type {import('./types.js').Link} */
+    this.link = 'lost';
+    this.unsent = 0;
     /** The names of members, and the titles of pages.
      * @type {Map<number, string>} */
     this.called = new Map();
@@ -105,7 +108,8 @@ export class Session {
   take(name, news) {
     if (name === 'hello') this.hello = news;
     if (name === 'pages') this.pages = news.pages;
-    if (name === 'link') this.isLinked = news;
+    if (name === 'link') this.link = news;
+    if (name === 'unsent') this.unsent = news;
     if (name === 'change') this.takePart(news);
     else if (name === 'board') this.takeWhole(news);
     else this.emit(name, news);
@@ -222,8 +226,9 @@ export class Session {
   }
 
   /** Asks for a page, or for a new one.
-   * @param {string | null} page */
-  async goToPage(page) {
+   * @param {string | null} page @param {boolean} [isLed] whether that is another's wish */
+  async goToPage(page, isLed = false) {
+    if (!isLed) this.emit('turning');
     this.wished = page;
     const answer = await this.member.choose(page);
     if (answer.ok) return;

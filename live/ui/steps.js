@@ -22,9 +22,10 @@ export class Steps {
     session.on('board', () => this.leaving.clear());
   }
 
-  /** A new step on the page in view. What can be restored by redo is forgotten. */
-  begin() {
-    const step = new Step(this.session, this.session.board.page);
+  /** A new step, on the page in view if no other is named. What can be restored by redo is forgotten.
+   * @param {string} [page] */
+  begin(page = this.session.board.page) {
+    const step = new Step(this.session, page);
     this.done.push(step);
     this.undone = this.undone.filter(({ page }) => page !== step.page);
     return step;

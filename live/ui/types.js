@@ -36,12 +36,15 @@
  * @typedef {[number, number, string, boolean]} Scene */
 
 /** What a member says to something that it was asked: a drawing's name, the address of a board, or why not.
- * @typedef {{ ok: boolean, fault?: string, source?: number, seq?: number, address?: string }} Reply */
+ * @typedef {{ ok: boolean, fault?: string, status?: number, source?: number, seq?: number, address?: string }} Reply */
+
+/** Whether the member answers, does not, or has another address now.
+ * @typedef {'open' | 'lost' | 'gone'} Link */
 
 /** What a board needs of the member behind it, over HTTP or in a worker of the page. `subscribe` is called once; from then on
  * `hear` is given each state as it changes, by its name: `hello`, `board`, `pages`, `members`, `health` and `wire`, with the
- * types above; `change` in the place of `board` where only a part of the page in view is another; `link` with a boolean, whether the member
- * answers; and `gone`, where it was started anew and this page can't reach it. What stands in brackets is not asked of every member.
+ * types above; `change` in the place of `board` where only a part of the page in view is another; `link` with a `Link`; and `unsent`, how many
+ * drawings wait for a member that does not answer. What stands in brackets is not asked of every member.
  * @typedef {object} Member
  * @property {(hear: (name: string, news: any) => void) => void} subscribe
  * @property {(page: string, operation: string) => Promise<Reply>} draw   one drawing line, such as `line 0 0 4 4 *`

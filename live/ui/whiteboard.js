@@ -6,6 +6,7 @@ import { $, say, tell } from './dom.js';
 import { Faces } from './faces.js';
 import { Files } from './files.js';
 import { FilmBar } from './film.js';
+import { Follow } from './follow.js';
 import { Hand, middleOf } from './hand.js';
 import { itemAt } from './inkfind.js';
 import { reachOf } from './eraser.js';
@@ -15,6 +16,7 @@ import { Layout } from './layout.js';
 import { kindOf, showHealth, showHidden, showMembers, showWorse } from './members.js';
 import { NOTES, Notes } from './notes.js';
 import { Others } from './others.js';
+import { Owner } from './owner.js';
 import { Painter } from './painter.js';
 import { showPages } from './pages.js';
 import { makePalette } from './palette.js';
@@ -59,9 +61,11 @@ export class Whiteboard {
     this.traffic = new Traffic(this.session);
     this.files = new Files(this);
     this.others = new Others(this);
+    this.owner = new Owner(this);
     this.film = new FilmBar(this.session, this.painter);
     this.sight = new Sight(this);
     this.faces = new Faces(this);
+    this.follow = new Follow(this);
     this.side = new Side(this);
     this.state = new State(this);
     this.welcome = new Welcome(this);
@@ -149,6 +153,7 @@ export class Whiteboard {
   changePage(board) {
     this.hand.gesture = null;
     this.sight.begin();
+    this.follow.goAfter();
     this.leaveNotes(board.page);
     say(`${this.session.titleOf(board.page)}, ${board.drawops.length} drawings`);
   }
@@ -208,7 +213,7 @@ export class Whiteboard {
     new Keys(this.view, this.hand, this.pointing, { keys, undo, redo, describe: (cell) => this.describe(cell) });
     addEventListener('beforeprint', () => this.sight.fitPrint());
     this.painter.night.addEventListener('change', () => this.changeColours());
-    new ResizeObserver(() => this.view.resize()).observe($('sheet'));
+    new ResizeObserver(() => { this.view.resize(); this.follow.goAfter(); }).observe($('sheet'));
   }
 
   focusSheet() {
@@ -235,7 +240,6 @@ export class Whiteboard {
     const { session } = this;
     session.on('hello', (hello) => this.takeHello(hello));
     session.on('board', (board, taken) => this.takeBoard(board, taken));
-    session.on('link', (is) => is || say('Offline: what you draw is not sent'));
     session.on('ghosts', () => this.painter.soon());
     session.on('notes', ({ colours }) => this.takeColours(colours));
     session.on('fault', tell);

@@ -213,6 +213,8 @@ function testPresences() {
   [2, 1, 3, 2].forEach((member) => hear(member));
   hear(3, null);
   check('who points, but for ourselves', told, [[2], [2, 3], [3, 2], [2]]);
+  presence.hear(writePoint({ member: 3, page: '7/2', cell: null, begun: ['view 0 0 9 9'] }), 1);
+  check('who points nowhere and tells what is in view', presence.others.get(3)?.point.page, '7/2');
   for (let i = 0; i < 100; i += 1) hear(2);
   check('not too many of one are heeded in a second', told.length < 60, true);
   for (let member = 10; member < 200; member += 1) hear(member);
@@ -258,11 +260,14 @@ async function testRecords() {
 class Noting {
   noted = [];
 
+  durabilities = [];
+
   constructor(members = [], firsts = {}) {
     Object.assign(this, { members, firsts });
   }
 
-  transaction() {
+  transaction(_stores, mode, options) {
+    if (mode) this.durabilities.push(options?.durability);
     const transaction = new globalThis.IDBTransaction(), note = (what) => (value) => void this.noted.push([what, value]);
     const answer = (result) => {
       const request = { result };
@@ -282,6 +287,10 @@ async function testDatabase() {
   const { kept, later } = await keptMembers(/** @type {any} */ (database), 'here');
   check('the members of a session, the latest first, without those of a later build', [kept.map(({ me }) => me), later], [[6, 7, 5], 1]);
   const record = new Record(/** @type {any} */ (database), 'here', 7);
+  await record.keep(['board 7 100 1 1']);
+  for (const line of ['# started at 9', 'tick 5', 'say draw']) await record.keep([line]);
+  check('what is ours is on the disk before anything goes out', database.durabilities, ['default', 'strict', 'default', 'strict']);
+  database.noted = [];
   await record.keep(['board 7 100 1 1']);
   record.add('tick 5');
   await record.remove();

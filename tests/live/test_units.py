@@ -411,6 +411,8 @@ def test_options(facts: Facts) -> None:
     spreads = [[reach / int(constant) for constant in each.split(",")[1::2]] for each, reach in ((constants[2], 5 / 10), (constants[4], 1))]
     few = [all(1 + (50 - 1) * share <= 6 for share in shares) for shares in spreads]
     facts("of fifty at most six ask or repair in a round, where 5 ms count as 10 too", few, [True, True])
+    joined = ("--web 127.0.0.1:0", "", "--web 80", "--web a:0 --ports 25000", "--web a:0 --lan", "--web a:0 --listen 127.0.0.1:1 --peer 127.0.0.1:2", "--web a:0 --broker mqtts://a/b", "--web a:0 wb:#ports=25000")
+    facts("a class is of its own unless a network is named", [read_options(words.split()).is_alone for words in joined], [True] + 7 * [False])
     facts("no page, so the terminal", (read_options(["--no-web"]).web, read_options(["--no-web"]).terminal), (None, True))
 
 

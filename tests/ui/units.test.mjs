@@ -9,10 +9,11 @@ import { clockOf, sceneAt } from '../../live/ui/film.js';
 import { readInk } from '../../live/ui/ink.js';
 import { Layout } from '../../live/ui/layout.js';
 import { initialsOf, readNotes, spoken } from '../../live/ui/notes.js';
+import { readBeside, viewLine } from '../../live/ui/points.js';
 import { gripAt, gripsOf, stretchOf, stretched } from '../../live/ui/resizing.js';
 import { Session } from '../../live/ui/session.js';
 import { arrow, filled, plainOf, simplify, stroke, writing } from '../../live/ui/shapes.js';
-import { fullness, nameOfNext, plainly } from '../../live/ui/state.js';
+import { fullness, linked, nameOfNext, plainly } from '../../live/ui/state.js';
 import { inside } from '../../live/ui/tools.js';
 import { check } from '../check.mjs';
 
@@ -159,6 +160,8 @@ function testLetters() {
 
 /** What the member says of itself, in words for everyone. */
 function testState() {
+  check('the connection', [['open', 3], ['lost', 0], ['lost', 1], ['lost', 12], ['gone', 2]].map(([link, many]) => linked(link, many)),
+    ['', 'Offline: what you draw waits here', 'Offline: 1 drawing waits here', 'Offline: 12 drawings wait here', 'This board has another address now']);
   const health = (phrase, missing = 0, warnings = []) => plainly({ phrase, missing, warnings, counts: {} }, true);
   check('in plain words', [health('whole'), health('caught up 3 s ago'), health('2 missing', 2), health('1 missing', 1)].map(({ text }) => text),
     ['Everything is here', 'Everything is here', 'Catching up: 2 drawings', 'Catching up: 1 drawing']);
@@ -220,6 +223,15 @@ async function testSession() {
   check('then it is, where it was drawn', drawn.map(([page, operation]) => `${page} ${operation}`).sort(), ['1/1 line 0 0 1 1 *', '1/1 line 0 0 2 2 *', '1/2 line 0 0 3 3 *']);
 }
 
+function testBeside() {
+  const lines = [viewLine({ x0: -12.4, y0: -0.5, x1: 6400, y1: 8000.6 }), 'call 1764486000', 'line 0 0 4 4 *'];
+  check('what is in view', lines[0], 'view -12 0 6400 8001');
+  check('what a member tells beside', readBeside(lines), { shapes: [line(0, 0, 4, 4)], view: { x0: -12, y0: 0, x1: 6400, y1: 8001 }, follows: null, call: 1764486000 });
+  check('whom it follows', readBeside(['follow 7']), { shapes: [], view: null, follows: 7, call: null });
+  check('what tells nothing', readBeside(['view 1 1 1 9', 'view 1 2 3', 'view 1 2 3 4 5', 'follow -1', 'follow 99999999999', 'call', 'view a b c d', 'viewing 1']), readBeside([]));
+  check('who does not know it draws none of it', lines.slice(0, 2).map(shapeOf), [null, null]);
+}
+
 /** A change is put into the page: some drawings go, others come to their places, and rows are others. */
 function testChanges() {
   const session = new Session({}), many = Array.from({ length: 100 }, (_, i) => named(line(i, 0, i, 1), i + 1)), told = [];
@@ -241,18 +253,48 @@ async function testLateAnswers() {
   const member = new HttpMember('token'), { fetch } = globalThis, late = () => Promise.reject(new Error('signal timed out')), shown = { page: '1/1', drawops: [] };
   const answers = async (/** @type {any} */ answer) => {
     globalThis.fetch = /** @type {any} */ (answer);
-    return [await member.read('1/1'), await member.record(), await member.draw('1/1', 'line 0 0 4 4 *')];
+    return [await member.read('1/1'), await member.record(), await member.choose('1/1')];
   };
-  const none = { ok: false, fault: 'wb-live does not answer' };
+  const none = { ok: false, fault: 'wb-live does not answer', status: 0 };
   try {
     check('what comes', await answers(async () => ({ ok: true, json: async () => shown, text: async () => 'board' })), [shown, 'board', shown]);
     check('what comes in part', await answers(async () => ({ ok: true, json: late, text: late })), [null, null, none]);
     check('what does not come', await answers(late), [null, null, none]);
-    check('what is refused', (await answers(async () => ({ ok: false, json: async () => none }))), [null, null, none]);
+    check('what is refused', (await answers(async () => ({ ok: false, status: 503, json: async () => ({ ok: false, fault: 'busy' }) }))), [null, null, { ok: false, fault: 'busy', status: 503 }]);
   } finally {
     globalThis.fetch = fetch;
   }
 }
 
-for (const each of [testSession, testChanges, testNotes, testLetters, testStretch, testState, testExports,
-  testFilm, testCells, testShapes, testTexts, testWords, testColours, testLayout, testFlood, testOrder, testLateAnswers]) test(each.name.slice('test'.length), each);
+/** What is drawn is asked for under one name until it is answered, many at once, in the order of the hand. */
+async function testAskedAgain() {
+  const member = new HttpMember('token'), { fetch } = globalThis, /** @type {any[]} */ bodies = [], /** @type {any[]} */ told = [];
+  const busy = { ok: false, fault: 'busy', status: 503 }, no = { ok: false, fault: 'word 3', status: 422 };
+  /** @type {((many: any[]) => any)[]} */
+  const answers = [
+    () => { throw new Error('it is away'); },
+    () => ({ ok: false, status: 503, json: async () => busy }),
+    (many) => ({ ok: true, json: async () => ({ ok: true, answers: many.map((_, i) => (i < 2 ? { ok: true, seq: i + 1 } : busy)) }) }),
+    (many) => ({ ok: true, json: async () => ({ ok: true, answers: many.map((_, i) => (i ? no : { ok: true, seq: 3 })) }) }),
+    () => ({ ok: true, json: async () => ({ ok: true, page: '1/2' }) }),
+  ];
+  member.hear = (name, news) => told.push([name, news]);
+  globalThis.fetch = /** @type {any} */ (async (/** @type {string} */ path, /** @type {any} */ { body }) => {
+    bodies.push([path, JSON.parse(body)]);
+    return (/** @type {any} */ (answers[bodies.length - 1]))(bodies[bodies.length - 1][1].many);
+  });
+  try {
+    const given = await Promise.all([...['a', 'b', 'c', 'd'].map((op) => member.draw('1/1', op)), member.choose('1/2')]);
+    const asked = bodies.slice(0, 4).map(([path, { many }]) => [path, many.map((/** @type {any} */ each) => each.op).join('')]);
+    check('what was asked', asked, [['draw', 'a'], ['draw', 'abcd'], ['draw', 'abcd'], ['draw', 'cd']]);
+    check('each under one name', new Set(bodies.slice(0, 4).flatMap(([, { many }]) => many.map((/** @type {any} */ { id, op }) => id + op))).size, 4);
+    check('and what else was asked for after it', bodies[4], ['page', { page: '1/2' }]);
+    check('what came of each', given.map(({ ok, seq }) => (ok ? seq ?? 'turned' : 'no')), [1, 2, 3, 'no', 'turned']);
+    check('how many waited', [told.map(([, many]) => many)[3], told[told.length - 1]], [4, ['unsent', 0]]);
+  } finally {
+    globalThis.fetch = fetch;
+  }
+}
+
+for (const each of [testSession, testBeside, testChanges, testNotes, testLetters, testStretch, testState, testExports,
+  testFilm, testCells, testShapes, testTexts, testWords, testColours, testLayout, testFlood, testOrder, testLateAnswers, testAskedAgain]) test(each.name.slice('test'.length), each);

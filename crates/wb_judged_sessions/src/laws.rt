@@ -98,9 +98,9 @@ pub fn judged_sessions_become_whole()
     ensures agree { JudgedAgree }
 {}
 
-/// Members that know each other once nothing is lost any more go on to do so, whoever else is there:
-/// each reports within 96 seconds, and what came from it stands for 192. So of what one sends, all
-/// comes to each other one as a member's, and the session becomes whole.
+/// Members that know each other once nothing is lost any more go on to do so, whatever others send
+/// that the judges drop: each reports within 96 seconds, and what came from it stands for 192. So of
+/// what one sends, all comes to each other one as a member's, and the session becomes whole.
 pub fn judged_members_stay_known()
     ensures stays { StaysKnown }
     ensures known { JudgedStayKnown }

@@ -3,20 +3,11 @@ use Rattle.std.specs.Prelude.{◌≡◌, ℕ, List, [], ◌++◌, Contains}
 use Rattle.wb_names.specs.Values.{DrawopValue}
 use Rattle.wb_names.specs.declared.name.PageId.{PageId}
 use Rattle.wb_gaps.specs.Answers.{report_of}
-use Rattle.wb_display.specs.Canvas.{canvas_text}
-use Rattle.wb_member.specs.Opened.{Opened, gaps_at, shown}
-use Rattle.wb_laws_sessions.specs.Sessions.{AreApart, Step, host_at}
+use Rattle.wb_member.specs.Opened.{gaps_at}
+use Rattle.wb_laws_sessions.specs.Sessions.{Step, host_at}
+use Rattle.wb_laws_machines.specs.Agreement.{Agree}
+use Rattle.wb_laws_machines.specs.Honest.{AreApart}
 use Rattle.wb_laws_sessions.specs.Drawn.{AreHonest, WasDrawn}
-
--- They hold the same drawops of a page, and show the same, character for character at every size.
-pub record Agree (one other : Opened) (page : PageId) : Type 0 where
-  pub over : (d : DrawopValue) → d.name.page ≡ page
-      → Contains one.is.held d → Contains other.is.held d
-  pub back : (d : DrawopValue) → d.name.page ≡ page
-      → Contains other.is.held d → Contains one.is.held d
-  pub views : shown page one ≡ shown page other
-  pub canvases : (width height : ℕ)
-      → canvas_text (shown page one) width height ≡ canvas_text (shown page other) width height
 
 -- Two members that have one report of a page, and no gaps there, agree: each at a moment of its
 -- own, in either order, and whoever started anew between.

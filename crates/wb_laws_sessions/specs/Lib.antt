@@ -1,3 +1,4 @@
+pub mod Members
 pub mod Sessions
 pub mod Drawn
 pub mod Agreement

@@ -1,5 +1,7 @@
 //! Laws of sessions. Each function does nothing: its contract is a law, for proofs to cite.
 
+ghost use Rattle.wb_laws_machines.specs.Laws as of;
+ghost use Rattle.wb_laws_sessions.specs.Members.{member};
 ghost use Rattle.wb_laws_sessions.specs.Agreement.{ReportsTellAgreement, WholeBoardsAgree};
 ghost use Rattle.wb_laws_sessions.specs.Drawn.{HeldOnce, HeldWasDrawn, NamesMeanOne, NoneClashes, NumbersCount, OnceHeldWasDrawn, SentWasHeld};
 ghost use Rattle.wb_laws_sessions.specs.Examples.{Clashes, IsRepaired};
@@ -27,6 +29,17 @@ pub fn reports_tell_agreement()
 /// Two members that hold all that was drawn on a page hold and show the same there.
 pub fn whole_boards_agree()
     ensures { WholeBoardsAgree }
+{}
+
+/// So it is of each page alone, whatever is forged on others: nothing is asked but of what is drawn on
+/// the page, nor of what is said or comes and is not taken anew.
+pub fn pages_stand_alone()
+    ensures held { of.HeldWasDrawn member }
+    ensures names { of.NamesMeanOne member }
+    ensures numbers { of.NumbersCount member }
+    ensures clashes { of.NoneClashes member }
+    ensures agree { of.ReportsTellAgreement member }
+    ensures whole { of.WholeBoardsAgree member }
 {}
 
 /// No request timer stands for what a member holds, and a repair timer only for what it holds.
