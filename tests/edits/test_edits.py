@@ -17,7 +17,7 @@ from .. import refusals
 
 TOP = Path(__file__).resolve().parents[2]
 EDITS = sorted(TOP.glob("crates/*/must-fail/*.edit"))
-MOST = 169
+MOST = 172
 REFUSED = "refused, as it must be"
 
 
