@@ -18,7 +18,7 @@ TABLE = TOP / "tests/edits/clauses.txt"
 NOTHING = "Unit {0}"
 GUARDS = "refused by its clause, and not without it"
 NOT_YET = "not tried yet"
-NAMED = re.compile(r"^# clause: (\w+)(?: (\w+))?$", re.MULTILINE)
+NAMED = re.compile(r"^# clause: ([\w:]+)(?: (\w+))?$", re.MULTILINE)
 OWED = re.compile(r"^(\w+)-requires(?:-.*)?-clause-(\w+)$")
 # goals that no clause of a function states, by how their names begin
 STATED_ELSEWHERE = (
@@ -82,7 +82,7 @@ def clause_of(edit: Path, goal: str, function: str, at: int, texts: dict[str, st
         if not other and re.search(kind, goal):
             return why
     found = other or owed
-    owner, wanted = (found[1], found[2] or "") if found else (function.split("::")[-1], named[1] if named else "")
+    owner, wanted = (found[1].split("::")[-1], found[2] or "") if found else (function.split("::")[-1], named[1] if named else "")
     kind = "requires" if owed and not other else "ensures"
     crate = edit.parent.parent
     files = {it.relative_to(crate).as_posix(): it.read_text() for it in sorted((crate / "src").rglob("*.rt"))} if found else {}
