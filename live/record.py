@@ -191,16 +191,15 @@ class Record:
     def sync(self) -> None:
         """Puts all lines on the disk: a crash of the machine does not lose them from now on. NoRoom if the disk does not take them: then those since
         the last sync are not in the record."""
-        if self.path is None or (self.is_named and self.synced == self.size):
-            return
-        try:
-            os.fsync(self.file)
-            if not self.is_named:
-                sync_folders(self.path)
-        except OSError as fault:
-            self.cut(self.synced)
-            raise NoRoom(fault.strerror) from fault
-        self.is_named = True
+        if self.path is not None and (self.synced < self.size or not self.is_named):
+            try:
+                os.fsync(self.file)
+                if not self.is_named:
+                    sync_folders(self.path)
+            except OSError as fault:
+                self.cut(self.synced)
+                raise NoRoom(fault.strerror) from fault
+            self.is_named = True
         self.synced = self.size
 
     def remove(self) -> None:

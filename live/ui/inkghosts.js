@@ -31,7 +31,8 @@ export class InkGhosts {
     const { hand, session, pen } = this.painter.parts, { colours } = this.painter, { gesture } = hand, { me } = session.hello;
     if (hand.tool === 'restore') this.paintHidden(session.board.hidden.slice(-MOST_HIDDEN));
     if (hand.selection.size) this.paintChosen(hand.chosenItems());
-    if (gesture?.touched) this.paintItems([...gesture.touched.keys()], colours.bad);
+    if (gesture?.touched && !this.painter.parts.style.look.cuts) this.paintItems([...gesture.touched.keys()], colours.bad);
+    else if (gesture?.rubbed) this.paintRubbed(gesture.rubbed);
     this.paintShapes([...session.waiting].map(({ ghost }) => ghost), me);
     this.paintShapes(pen.ghosts(), me);
     this.paintShapes(hand.ghosts(), me);
@@ -96,6 +97,22 @@ export class InkGhosts {
       brush.fillRect(a.x, a.y, b.x - a.x, b.y - a.y);
       brush.globalAlpha = 1;
       brush.strokeRect(a.x, a.y, b.x - a.x, b.y - a.y);
+    });
+  }
+
+  /** Where the eraser went.
+   * @param {import('./eraser.js').Rub[]} rubbed */
+  paintRubbed(rubbed) {
+    this.painter.inUnits((brush) => {
+      brush.strokeStyle = this.painter.colours.paper;
+      brush.lineCap = 'round';
+      for (const { from, to, near } of rubbed) {
+        brush.lineWidth = 2 * near;
+        brush.beginPath();
+        brush.moveTo(from.x, from.y);
+        brush.lineTo(to.x + 0.5, to.y);
+        brush.stroke();
+      }
     });
   }
 

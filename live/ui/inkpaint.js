@@ -17,10 +17,13 @@ import { CELL_WIDE, OWN, WIDTHS } from './inksigns.js';
  * @typedef {{ isNight: () => boolean, colours: Record<string, string>, tintOf: (source: number) => string }} Shades */
 
 /** How many times as wide as a stroke a highlighter is, and how much it lets through. */
-const BROAD = 2.4, THIN = 0.45;
+export const BROAD = 2.4, THIN = 0.45;
 
 /** How much of its colour the inside of a tinted shape has, and of a note by day and by night. */
-const TINT = 0.22, NOTE = { day: 0.42, night: 0.3 };
+export const TINT = 0.22, NOTE = { day: 0.42, night: 0.3 };
+
+/** @type {(a: Box, b: Box) => boolean} */
+export const overlap = (a, b) => a.x0 <= b.x1 && a.x1 >= b.x0 && a.y0 <= b.y1 && a.y1 >= b.y0;
 
 /** @type {WeakMap<Item, Path2D[]>} */
 const known = new WeakMap();

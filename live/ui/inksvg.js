@@ -3,7 +3,7 @@ import { BRIGHT } from './colours.js';
 import { escaped } from './exports.js';
 import { isClosed } from './ink.js';
 import { LEADING, isLetters, linesOf, standOf } from './inkfonts.js';
-import { boxAboutAll, inOrder } from './inkpaint.js';
+import { BROAD, NOTE, THIN, TINT, boxAboutAll, inOrder } from './inkpaint.js';
 import { dashesOf, piecesOf, tenth, wayOf } from './inkpaths.js';
 import { CELL_WIDE, SIZES, WIDTHS } from './inksigns.js';
 
@@ -34,9 +34,9 @@ function part(item, colour, colours) {
   const words = item.letters ? letters(item, isNote ? colours.ink : fill === 2 ? colours.paper : colour) : '';
   if (isLetters(item)) return words;
   if (kind === 'v') return pressed(item, colour);
-  const under = isNote ? `<path d="${wayOf(item)}" fill="${colours.paper}"/>` : '', inside = fill ? ` fill="${fill === 2 ? colour : BRIGHT[item.colour] ?? colour}" fill-opacity="${isNote ? 0.42 : fill === 2 ? 1 : 0.22}"` : '';
-  return `${under}<path d="${wayOf(item)}" stroke="${isNote ? 'none' : colour}" stroke-width="${WIDTHS[width] * (kind === 'h' ? 2.4 : 1)}"`
-    + `${kind === 'h' ? ' opacity=".45"' : ''}${dashes && ` stroke-dasharray="${dashes}"`}${inside}/>${words}`;
+  const under = isNote ? `<path d="${wayOf(item)}" fill="${colours.paper}"/>` : '', inside = fill ? ` fill="${fill === 2 ? colour : BRIGHT[item.colour] ?? colour}" fill-opacity="${isNote ? NOTE.day : fill === 2 ? 1 : TINT}"` : '';
+  return `${under}<path d="${wayOf(item)}" stroke="${isNote ? 'none' : colour}" stroke-width="${WIDTHS[width] * (kind === 'h' ? BROAD : 1)}"`
+    + `${kind === 'h' ? ` opacity="${THIN}"` : ''}${dashes && ` stroke-dasharray="${dashes}"`}${inside}/>${words}`;
 }
 
 /** @type {(items: Item[], paints: { colourOf: (item: Item) => string, shades: { colours: Colours } }, title: string) => string} */

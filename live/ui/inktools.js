@@ -1,14 +1,14 @@
 /** The tools of a page that is shown as ink. */
 import { kept, shifted } from './cells.js';
 import { partsInside } from './chosen.js';
-import { reachOf, restOf, rub } from './eraser.js';
+import { cutOf, reachOf, restOf, rub } from './eraser.js';
 import { inkOf } from './ink.js';
 import { itemAt, partsAt } from './inkfind.js';
 import { itemsOf } from './inkitems.js';
 import { boxAboutAll } from './inkpaint.js';
 import { CELL_HIGH, CELL_WIDE, PAGE_HIGH, PAGE_WIDE } from './inksigns.js';
 import { keptInks, movedInk, placed, writeShape } from './inkwriting.js';
-import { gripAt, stretchOf, stretched } from './resizing.js';
+import { gripAt, reshaped, stretchOf, stretched } from './resizing.js';
 
 /** @typedef {import('./types.js').Shape} Shape */
 /** @typedef {import('./types.js').Drawing} Drawing */
@@ -53,8 +53,8 @@ const drawn = (texts) => texts.map((text) => placed(text, 0));
 /** @type {(heads: number) => Tool} */
 const liner = (heads) => ({
   shapes: (gesture, hand) => {
-    const { colour, width, isDashed } = hand.parts.style.look;
-    return drawn(writeShape('l', { colour, width }, heads + (isDashed ? 4 : 0), ends(gesture)));
+    const { colour, width, isDashed, hasTwo } = hand.parts.style.look;
+    return drawn(writeShape('l', { colour, width }, (heads && hasTwo ? 3 : heads) + (isDashed ? 4 : 0), ends(gesture)));
   },
 });
 
@@ -106,6 +106,7 @@ export function carriedAll(shapes, at) {
 function movedThere({ points, isMove, isShifted, grip }, hand) {
   const [from] = points, to = points[points.length - 1], [dx, dy] = [to.x - from.x, to.y - from.y], items = grip ? hand.chosenItems() : [];
   if (!isMove || Math.hypot(dx, dy) < STILL) return [];
+  if (grip?.end !== undefined) return reshaped(items[0], grip.end, { x: dx, y: dy });
   return grip ? stretched(items, stretchOf(grip, items, { x: dx, y: dy }, isShifted)) : carriedBy(hand.chosen.shapes(), dx, dy);
 }
 
@@ -117,7 +118,7 @@ function take(gesture, hand, { isShifted }) {
     Object.assign(gesture, { grip, isMove: true });
     return;
   }
-  const item = itemAt(ink.items, at, reachOf(view)), isTaken = item !== undefined && hand.chosen.has(item, partsAt(item, at, reachOf(view)));
+  const item = ink.grid.itemAt(at, reachOf(view)), isTaken = item !== undefined && hand.chosen.has(item, partsAt(item, at, reachOf(view)));
   if (!isTaken && !isShifted) hand.selection.clear();
   if (item && isTaken && isShifted) hand.chosen.remove(item);
   else if (item && !isTaken) hand.chosen.add(item);
@@ -160,14 +161,15 @@ export const INK_TOOLS = {
   arrow: liner(1),
   frame: closer('r'),
   ellipse: closer('o'),
+  diamond: closer('d'),
   note: { shapes: (gesture, hand) => drawn(writeShape('n', { colour: hand.parts.style.look.bright, width: 2 }, 1, corners(gesture))), finish: beginNote },
   text: { isShort: true, finish: ({ points }, hand) => hand.parts.typing.beginLetters(points[points.length - 1]) },
   erase: {
     begin: (gesture, hand) => rub(gesture, hand, gesture.points[0], gesture.points[0]),
     move: (gesture, hand, points) => points.reduce((from, to) => (rub(gesture, hand, from, to), to), gesture.points[gesture.points.length - 1]),
-    finish: ({ touched }, hand) => {
-      const found = [...(touched ?? [])];
-      hand.change(found.flatMap(([item, parts]) => restOf(item, parts, hand)), found.flatMap(([item]) => item.drawings));
+    finish: ({ touched, rubbed = [] }, hand) => {
+      const found = [...(touched ?? [])], { cuts } = hand.parts.style.look;
+      hand.change(found.flatMap(([item, parts]) => (cuts ? cutOf(item, rubbed, hand) : restOf(item, parts, hand))), found.flatMap(([item]) => item.drawings));
     },
   },
   restore: { isShort: true, finish: restore },

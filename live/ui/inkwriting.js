@@ -221,7 +221,8 @@ export function restyled(text, look) {
   const ink = readInk(text);
   if (!ink) return null;
   const { kind, colour = 0, width, flag, goesOn } = ink, isLine = kind === 'l' || (isClosed(kind) && kind !== 'n');
-  const dashes = look.isDashed === undefined ? flag & 4 : look.isDashed ? 4 : 0, fill = isClosed(kind) ? look.fill ?? flag & 3 : flag & 3;
+  const dashes = look.isDashed === undefined ? flag & 4 : look.isDashed ? 4 : 0, heads = look.hasTwo === undefined || !(flag & 1) ? flag & 3 : look.hasTwo ? 3 : 1;
+  const fill = isClosed(kind) ? look.fill ?? flag & 3 : heads;
   const other = { colour: look.colour ?? look.bright ?? colour, width: kind === 't' ? look.size ?? width : kind === 'h' ? look.broad ?? width : kind === 'n' || kind === 'k' ? width : look.width ?? width };
   const sign = isLine ? fill + dashes : kind === 't' ? look.font ?? flag : flag;
   return text.slice(0, 2) + spelled(9 * other.colour + other.width, 1) + (goesOn ? GOING_ON : FLAGS)[sign] + text.slice(4);

@@ -3,7 +3,7 @@ import { OFFERED } from './colours.js';
 import { $ } from './dom.js';
 
 /** The tools by their keys: as ink, and by characters. */
-const OF_INK = { v: 'select', s: 'select', h: 'hand', p: 'pen', m: 'marker', e: 'erase', d: 'erase', l: 'line', a: 'arrow', r: 'frame', f: 'frame', o: 'ellipse', n: 'note', t: 'text' };
+const OF_INK = { v: 'select', s: 'select', h: 'hand', p: 'pen', m: 'marker', e: 'erase', d: 'erase', l: 'line', a: 'arrow', r: 'frame', f: 'frame', o: 'ellipse', i: 'diamond', n: 'note', t: 'text' };
 const OF_CELLS = { v: 'select', s: 'select', p: 'pen', e: 'erase', d: 'erase', l: 'line', a: 'arrow', f: 'frame', b: 'block', t: 'text', r: 'restore' };
 
 /** @param {import('./whiteboard.js').Whiteboard} board @returns {Record<string, () => void>} */

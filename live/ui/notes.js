@@ -1,4 +1,4 @@
-/** Names of members, titles of pages, and what is said: texts on a page that a convention reserves (docs/WORDS.md), which is named,
+/** Names of members, titles of pages, and what is said: texts on a page that a convention reserves (docs/SCRIPTS.md), which is named,
  * repaired and recorded as every other. */
 import { SIDE, spell } from './cells.js';
 import { inTexts, readLetters, writeLetters } from './inkletters.js';

@@ -6,7 +6,7 @@ import { InkLayer } from './inklayer.js';
 import { CELL_WIDE } from './inksigns.js';
 
 /** @typedef {{ session: import('./session.js').Session, view: import('./view.js').View, layout: import('./layout.js').Layout,
- *   hand: import('./hand.js').Hand, pen: import('./pen.js').Pen, notes: import('./notes.js').Notes }} Parts */
+ *   hand: import('./hand.js').Hand, pen: import('./pen.js').Pen, style: import('./style.js').Style, notes: import('./notes.js').Notes }} Parts */
 
 /** The page's colours that are read from its style. */
 const NAMES = ['paper', 'ink', 'quiet', 'dot', 'accent', 'soft', 'bad', 'bad-soft', 'edge'];

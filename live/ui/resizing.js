@@ -2,6 +2,7 @@
  * corner stays where it is. */
 import { SIDE, clamp } from './cells.js';
 import { isClosed, isStroke } from './ink.js';
+import { off } from './inkcurves.js';
 import { isLetters } from './inkfonts.js';
 import { boxAboutAll, closeBoxOf } from './inkpaint.js';
 import { CELL_HIGH, CELL_WIDE, SIZES } from './inksigns.js';
@@ -11,7 +12,7 @@ import { placed, writeLink, writeShape, writeStroke, writeWords } from './inkwri
 /** @typedef {import('./ink.js').Point} Point */
 /** @typedef {import('./inkitems.js').Item} Item */
 /** A corner of the box, and the one opposite to it; or the grip that turns it, and the middle.
- * @typedef {{ at: Point, still: Point, isTurn?: boolean }} Grip */
+ * @typedef {{ at: Point, still: Point, isTurn?: boolean, end?: number }} Grip   end: of a line alone, which of its points it is: an end, or where it is bent */
 /** Where each point of the page comes to lie, and how many times as large it all becomes.
  * @typedef {{ to: (point: Point) => Point, times: number, isTurn?: boolean }} Stretch */
 
@@ -20,6 +21,9 @@ const REACH = 16, ABOVE = 30;
 
 /** With Shift it is turned in steps of 15 degrees. */
 const STEP = Math.PI / 12;
+
+/** A line that is bent by less than this many units is straight. */
+const STRAIGHT = 30;
 
 /** Nothing becomes smaller than this part of what it was. */
 const LEAST = 0.1;
@@ -31,8 +35,12 @@ export const frameAbout = (items) => boxAboutAll(items, closeBoxOf);
 /** The corners of the box about some items, and above it the grip that turns them about their middle: none if there are no items.
  * @type {(items: Item[], point: number) => Grip[]} */
 export function gripsOf(items, point) {
-  const box = frameAbout(items);
+  const box = frameAbout(items), [{ kind, points }] = items.length === 1 ? items : [{ kind: '', points: [] }];
   if (!box) return [];
+  if (kind === 'l') {
+    const [a, b, over = { x: (a.x + b.x) / 2, y: (a.y + b.y) / 2 }] = points;
+    return [{ at: a, still: b, end: 0 }, { at: b, still: a, end: 1 }, { at: over, still: a, end: 2 }];
+  }
   const { x0, y0, x1, y1 } = box, corners = [{ x: x0, y: y0 }, { x: x1, y: y0 }, { x: x1, y: y1 }, { x: x0, y: y1 }], middle = { x: (x0 + x1) / 2, y: (y0 + y1) / 2 };
   return [...corners.map((at, i) => ({ at, still: corners[(i + 2) % 4] })), { at: { x: middle.x, y: y0 - ABOVE * point }, still: middle, isTurn: true }];
 }
@@ -72,6 +80,14 @@ export function stretchOf(grip, items, by, isEven) {
 /** The size of letters that is nearest to another one.
  * @type {(size: number) => number} */
 const sizeNear = (size) => SIZES.reduce((best, each, i) => (Math.abs(each - size) < Math.abs(SIZES[best] - size) ? i : best), 0);
+
+/** A line of which one point is moved: an end, or the one that it passes half way, unless that comes to lie between the ends.
+ * @type {(item: Item, end: number, by: Point) => Shape[]} */
+export function reshaped({ colour, width, flag, points: [a, b, over] }, end, by) {
+  const points = [a, b, ...over || end === 2 ? [over ?? { x: (a.x + b.x) / 2, y: (a.y + b.y) / 2 }] : []].map((point, i) => (i === end ? { x: point.x + by.x, y: point.y + by.y } : point));
+  const isStraight = points.length === 3 && off(points[2], points[0], points[1]) < STRAIGHT;
+  return writeShape('l', { colour, width }, flag, isStraight ? points.slice(0, 2) : points).map((text) => placed(text, 0));
+}
 
 /** The points of an item whose middle comes to lie elsewhere.
  * @type {(item: Item, to: (point: Point) => Point) => Point[]} */

@@ -10,7 +10,6 @@ import { FilmBar } from './film.js';
 import { Follow } from './follow.js';
 import { Hand, middleOf } from './hand.js';
 import { History, kindOf } from './history.js';
-import { itemAt } from './inkfind.js';
 import { reachOf } from './eraser.js';
 import { stayAbove } from './keyboard.js';
 import { keysOf } from './keymap.js';
@@ -99,7 +98,7 @@ export class Whiteboard {
   describe(cell) {
     const { session, layout, ink } = this, place = `${cell.x}, ${cell.y}`;
     if (this.painter.isInk) {
-      const item = itemAt(ink.items, middleOf(cell), reachOf(this.view));
+      const item = ink.grid.itemAt(middleOf(cell), reachOf(this.view));
       return item ? `${place}   ${kindOf(item.drawings[0])} by ${session.who(item.source)}` : place;
     }
     const drawing = this.hand.tool === 'restore' ? layout.hiddenAt(cell) : layout.drawingAt(cell);
@@ -110,7 +109,7 @@ export class Whiteboard {
   under() {
     const { hand, ink, session } = this, cell = hand.at(), { gesture, point } = hand;
     if (this.painter.isInk) {
-      const item = point && !gesture ? itemAt(ink.items, point, reachOf(this.view)) : undefined;
+      const item = point && !gesture ? ink.grid.itemAt(point, reachOf(this.view)) : undefined;
       return item ? `${session.who(item.source)}, ${when(item.drawings[0].time)}` : '';
     }
     const size = gesture ? `   ${Math.abs(gesture.to.x - gesture.from.x) + 1} by ${Math.abs(gesture.to.y - gesture.from.y) + 1}` : '';
@@ -201,7 +200,7 @@ export class Whiteboard {
    * @param {MouseEvent} event */
   edit(event) {
     if (!this.painter.isInk || event.target instanceof HTMLTextAreaElement || !['select', 'text'].includes(this.hand.tool)) return;
-    const item = itemAt(this.ink.items, this.view.pointAt(event), reachOf(this.view));
+    const item = this.ink.grid.itemAt(this.view.pointAt(event), reachOf(this.view));
     if (item && ['t', 'n', 'r', 'o', 'd'].includes(item.kind)) this.typing.edit(item);
   }
 

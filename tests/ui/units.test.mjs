@@ -6,7 +6,10 @@ import { colourOf } from '../../live/ui/colours.js';
 import { HttpMember } from '../../live/ui/connection.js';
 import { htmlOf, svgOf, textOf } from '../../live/ui/exports.js';
 import { clockOf, sceneAt } from '../../live/ui/film.js';
+import { Grid } from '../../live/ui/grid.js';
 import { readInk } from '../../live/ui/ink.js';
+import { itemAt, meets } from '../../live/ui/inkfind.js';
+import { itemsOf } from '../../live/ui/inkitems.js';
 import { momentsOf, rowsOf, shownAt } from '../../live/ui/history.js';
 import { placed } from '../../live/ui/inkwriting.js';
 import { Layout } from '../../live/ui/layout.js';
@@ -288,6 +291,42 @@ function testChanges() {
   check('what became of it', told, [[true, 0, 50, 50, 0], [false, 1, 0, 49, 1], [false, 0, 51, 100, 0], [false, 1, 1, 100, 0], [false, 1, 0, 99, 0]]);
 }
 
+/** Numbers below a bound, the same in each run. */
+const chanceOf = (seed) => (most) => {
+  seed = (Math.imul(seed, 1664525) + 1013904223) >>> 0;
+  return Math.floor((seed / 2 ** 32) * most);
+};
+
+/** Lines and frames of all sizes, some as large as the page, most of them small and near one another. */
+function itemsAtRandom(many, chance) {
+  return itemsOf(Array.from({ length: many }, (_, i) => {
+    const far = 2 ** chance(12), [x, y] = [chance(chance(3) ? 400 : 4096), chance(chance(3) ? 400 : 4096)];
+    const to = (at) => Math.min(4095, Math.max(0, at + chance(2 * far) - far));
+    return named({ op: chance(2) ? 'line' : 'frame', x0: x, y0: y, x1: to(x), y1: to(y), glyph: '*' }, 2 * i + 1, 1 + chance(3));
+  }));
+}
+
+/** What stands where is found as by looking at all, and so much sooner that a full page has it between two moves of a hand. */
+function testGrid() {
+  const chance = chanceOf(7), items = itemsAtRandom(2_000, chance), grid = new Grid(), left = items.filter((_, i) => i % 3);
+  grid.change([], items);
+  grid.change(items.filter((_, i) => i % 3 === 0), []);
+  const wrong = Array.from({ length: 400 }, () => {
+    const at = { x: chance(30_000), y: chance(50_000) }, near = chance(300), box = { x0: at.x, y0: at.y, x1: at.x + chance(chance(2) ? 3_000 : 300_000), y1: at.y + chance(3_000) };
+    const found = grid.within(box, left).filter((item) => meets(item, box)), all = left.filter((item) => meets(item, box));
+    return found.length !== all.length || found.some((item, i) => item !== all[i]) || grid.itemAt(at, near) !== itemAt(left, at, near) || (all.length > 0 && !grid.hasAny(box));
+  }).filter(Boolean).length;
+  check('points and boxes in which another item is found', wrong, 0);
+  check('an empty part of the page', [grid.hasAny({ x0: 262_200, y0: 491_600, x1: 262_201, y1: 491_601 }), new Grid().itemAt({ x: 5, y: 5 }, 100)], [false, undefined]);
+  const many = itemsOf(Array.from({ length: 60_000 }, (_, i) => named(line(4 * (i % 250), 4 * Math.floor(i / 250), 4 * (i % 250) + 2, 4 * Math.floor(i / 250) + 2), 2 * i + 1))), full = new Grid();
+  full.change([], many);
+  const points = Array.from({ length: 2_000 }, () => ({ x: chance(64_000), y: chance(115_000) })), began = performance.now();
+  points.forEach((at) => full.itemAt(at, 45));
+  const each = (performance.now() - began) / points.length;
+  console.log(`a point among ${many.length} items takes ${each.toFixed(4)} ms`);
+  check('it is found in time', each < (process.env.WB_MEASURE ? 0.2 : 2), true);
+}
+
 /** A program that answers too late, or in part: nothing is thrown, so the page goes on. */
 async function testLateAnswers() {
   const member = new HttpMember('token'), { fetch } = globalThis, late = () => Promise.reject(new Error('signal timed out')), shown = { page: '1/1', drawops: [] };
@@ -336,5 +375,5 @@ async function testAskedAgain() {
   }
 }
 
-for (const each of [testSession, testBeside, testChanges, testNotes, testLetters, testLeaves, testErased, testStretch, testState, testExports,
+for (const each of [testSession, testBeside, testGrid, testChanges, testNotes, testLetters, testLeaves, testErased, testStretch, testState, testExports,
   testFilm, testCells, testShapes, testTexts, testWords, testColours, testLayout, testFlood, testOrder, testLateAnswers, testAskedAgain]) test(each.name.slice('test'.length), each);
