@@ -47,6 +47,9 @@ export class Member extends EventEmitter {
      * written the member breaks off.
      * @param {string} page @param {string} operation */
     draw(page: string, operation: string): Promise<import("./host.js").Answer>;
+    /** Draws one after another, until one has no room. Nothing else of this member comes between them.
+     * @param {string} page @param {string[]} operations */
+    drawAll(page: string, operations: string[]): Promise<import("./host.js").Answer[]>;
     /** @param {Uint8Array} datagram @param {bigint} [place] from where it came */
     take(datagram: Uint8Array, place?: bigint | undefined): void;
     /** @param {import('./wb.js').Answer} answer */

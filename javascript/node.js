@@ -110,12 +110,19 @@ export class Member extends EventEmitter {
    * written the member breaks off.
    * @param {string} page @param {string} operation */
   async draw(page, operation) {
+    const [answer] = await this.drawAll(page, [operation]);
+    return /** @type {import('./wb.js').Answer} */ (answer);
+  }
+
+  /** Draws one after another, until one has no room. Nothing else of this member comes between them.
+   * @param {string} page @param {string[]} operations */
+  async drawAll(page, operations) {
     await this.listened;
     return this.inTurn(async (now) => {
-      const answer = this.host.add(now, BigInt(Date.now()) * 1000n, page, operation);
-      this.obey(answer);
-      if (answer.became !== 'full') this.emit('change', page);
-      return answer;
+      const answers = this.host.addAll(now, BigInt(Date.now()) * 1000n, page, operations);
+      for (const answer of answers) this.obey(answer);
+      if (answers.some((answer) => answer.became !== 'full')) this.emit('change', page);
+      return answers;
     }).catch((fault) => {
       if (!(fault instanceof Refused)) this.breakOff(fault);
       throw fault;

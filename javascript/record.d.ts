@@ -4,12 +4,20 @@ export class Record {
     constructor(path: string);
     path: string;
     isBroken: boolean;
+    isDue: boolean;
+    isHeld: boolean;
     file: number;
     size: number;
+    synced: number;
     lines: string[];
     /** Puts lines at the end, all or none; what this member drew is on the disk then. It throws where there is no room.
      * @param {string[]} lines */
     add(lines: string[]): void;
+    /** Puts on the disk what is due. */
+    sync(): void;
+    /** Takes off what could not be written. Nothing is written from then on.
+     * @param {number} size */
+    cut(size: number): void;
     /** Puts the name of a new file on the disk. */
     syncName(): void;
     /** Closes it, and says that nothing was lost. */

@@ -20,6 +20,8 @@ export class Record {
   constructor(path) {
     this.path = path;
     this.isBroken = false;
+    // whether lines wait for a sync, and whether that waits for more of them
+    this.isDue = this.isHeld = false;
     this.file = openSync(path, 'a+', 0o600);
     const text = readFileSync(path, 'latin1');
     if (!text.startsWith(FIRST_LINE.slice(0, text.length))) {
@@ -27,7 +29,7 @@ export class Record {
       throw new Refused(path, 'it is no record');
     }
     // a last line without its line feed was cut off, and nothing of it was sent
-    this.size = text.lastIndexOf('\n') + 1;
+    this.size = this.synced = text.lastIndexOf('\n') + 1;
     ftruncateSync(this.file, this.size);
     this.lines = text.slice(0, this.size).split('\n').slice(0, -1);
   }
@@ -39,13 +41,34 @@ export class Record {
     const text = lines.map((line) => `${line}\n`).join('');
     try {
       if (writeSync(this.file, text, null, 'latin1') < text.length) throw new Error(`there is no room for ${this.path}`);
-      if (lines.some((line) => line.startsWith('say ') || line.startsWith('#'))) fsyncSync(this.file);
     } catch (fault) {
-      this.isBroken = true;
-      ftruncateSync(this.file, this.size);
+      this.cut(this.size);
       throw fault;
     }
     this.size += text.length;
+    this.isDue ||= lines.some((line) => line.startsWith('say ') || line.startsWith('#'));
+    this.sync();
+  }
+
+  /** Puts on the disk what is due. */
+  sync() {
+    if (!this.isDue || this.isHeld) return;
+    try {
+      fsyncSync(this.file);
+    } catch (fault) {
+      this.cut(this.synced);
+      throw fault;
+    }
+    this.isDue = false;
+    this.synced = this.size;
+  }
+
+  /** Takes off what could not be written. Nothing is written from then on.
+   * @param {number} size */
+  cut(size) {
+    this.isBroken = true;
+    ftruncateSync(this.file, size);
+    this.size = size;
   }
 
   /** Puts the name of a new file on the disk. */
@@ -151,5 +174,17 @@ export class RecordedHost extends Host {
     this.record.add(block.said('record'));
     const fate = block.fault ?? block.said('became')[0], became = /** @type {import('./wb.js').Became} */ (fate === 'left' ? 'full' : fate);
     return Object.assign(new Answer(), { send: [...sent, ...block.sent()], due: this.due, became, warning: block.said('warn')[0] ?? null });
+  }
+
+  /** The same, by one sync of the disk.
+   * @param {number} now @param {number | bigint} time @param {string} page @param {string[]} operations */
+  addAll(now, time, page, operations) {
+    this.record.isHeld = true;
+    try {
+      return super.addAll(now, time, page, operations);
+    } finally {
+      this.record.isHeld = false;
+      this.record.sync();
+    }
   }
 }

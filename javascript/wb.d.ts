@@ -46,6 +46,9 @@ export class Host {
      * seen: use the microseconds of the time of day.
      * @param {number} now @param {number | bigint} time @param {string} page as `1/1` @param {string} operation @returns {Answer} */
     add(now: number, time: number | bigint, page: string, operation: string): Answer;
+    /** Draws one after another, until one has no room. Refused at the first that the host does not take; those before it are drawn.
+     * @param {number} now @param {number | bigint} time @param {string} page @param {string[]} operations @returns {Answer[]} */
+    addAll(now: number, time: number | bigint, page: string, operations: string[]): Answer[];
     /** Gives the timers other constants, 1 to 16 each.
      * @param {number} c1 @param {number} c2 @param {number} d1 @param {number} d2 */
     tune(c1: number, c2: number, d1: number, d2: number): void;

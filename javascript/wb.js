@@ -127,6 +127,18 @@ export class Host {
     return Object.assign(new Answer(), { send: block.sent(), due: this.due, became });
   }
 
+  /** Draws one after another, until one has no room. Refused at the first that the host does not take; those before it are drawn.
+   * @param {number} now @param {number | bigint} time @param {string} page @param {string[]} operations @returns {Answer[]} */
+  addAll(now, time, page, operations) {
+    const answers = [];
+    for (const operation of operations) {
+      const answer = this.add(now, time, page, operation);
+      answers.push(answer);
+      if (answer.became === 'full') break;
+    }
+    return answers;
+  }
+
   /** Gives the timers other constants, 1 to 16 each.
    * @param {number} c1 @param {number} c2 @param {number} d1 @param {number} d2 */
   tune(c1, c2, d1, d2) {
