@@ -116,7 +116,7 @@ class Web(ThreadingHTTPServer):
         self.member = member
         self.events = events
         self.guests = guests
-        self.following = Following(options)
+        self.following = Following(options, member.telling.is_nearly_full)
         self.streams = threading.Semaphore(MOST_STREAMS)
         self.files = page_files(self.token)
 
