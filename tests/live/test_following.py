@@ -120,7 +120,7 @@ def board_of(address: str) -> Any:
 
 
 def full(states: Dict[str, Any]) -> bool:
-    """Whether it is told that a board has no room."""
+    """Whether a warning says that a board has no room."""
     return any("is full" in text for text in states["health"]["warnings"])
 
 
