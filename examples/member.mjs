@@ -3,8 +3,15 @@
 import { createInterface } from 'node:readline';
 import { Member } from 'wb/node.js';
 
-const [me, port, ...others] = process.argv.slice(2).map(Number);
+const [me, port, record, ...others] = process.argv.slice(2);
 const address = '127.0.0.1';
-const member = await Member.open(me, { bind: { address, port }, to: others.map((other) => ({ address, port: other })) });
+const member = await Member.open(Number(me), {
+  record: record === '-' ? undefined : record,
+  bind: { address, port: Number(port) },
+  to: others.map((other) => ({ address, port: Number(other) })),
+});
 member.on('change', (page) => console.log(member.host.show(page, 40, 3).join('\n')));
-createInterface({ input: process.stdin }).on('line', (line) => member.draw('1/1', line)).on('close', () => member.end());
+for await (const line of createInterface({ input: process.stdin })) {
+  await member.draw('1/1', line).catch((fault) => console.error(fault.message));
+}
+member.end();

@@ -9,12 +9,14 @@ export function load(file?: string | URL | undefined, wide?: boolean | undefined
  * @property {Address} [bind]
  * @property {Address[]} [to] */
 /** A host that has a socket and a clock: it hands in what comes, ticks when something is due, and sends what is answered. It tells `change` with
- * the page that something new was drawn on, and `fault` once it has broken off. Datagrams are neither signed nor sealed: whoever is on the network
- * can read and draw. */
+ * the page that something new was drawn on, and `fault` once it has broken off, which is a warning of the process if nobody listens to that.
+ * Datagrams are neither signed nor sealed: whoever is on the network can read and draw. */
 export class Member extends EventEmitter {
-    /** Opens a member, by its number or with a host of its own.
-     * @param {number | Host} member @param {Place & Partial<import('./wb.js').Opening>} place */
-    static open(member: number | Host, { group, interface: on, bind, to, program, ...opening }: Place & Partial<import('./wb.js').Opening>): Promise<Member>;
+    /** Opens a member, by its number or with a host of its own. It goes on from its record, if that is named.
+     * @param {number | Host} member @param {Place & Partial<import('./wb.js').Opening> & { record?: string }} place */
+    static open(member: number | Host, { group, interface: on, bind, to, program, record, ...opening }: Place & Partial<import('./wb.js').Opening> & {
+        record?: string;
+    }): Promise<Member>;
     /** @param {Host} host @param {Address[]} to */
     constructor(host: Host, to: Address[]);
     host: Host;
@@ -22,11 +24,14 @@ export class Member extends EventEmitter {
     began: bigint;
     socket: import("node:dgram").Socket;
     isOver: boolean;
+    /** @type {() => void} */
+    stopListening: () => void;
+    listened: Promise<void>;
     /** @type {NodeJS.Timeout | undefined} */
     timer: NodeJS.Timeout | undefined;
     /** @type {Promise<unknown>} */
     last: Promise<unknown>;
-    /** The moment: microseconds since the start, which never go back. */
+    /** The moment, in microseconds, which never goes back. */
     now(): number;
     /** Where this member hears. */
     address(): {
@@ -36,16 +41,22 @@ export class Member extends EventEmitter {
     /** Does something in its turn, at its own moment; before it, what is due.
      * @template T @param {(now: number) => Promise<T>} task @returns {Promise<T>} */
     inTurn<T>(task: (now: number) => Promise<T>): Promise<T>;
-    /** Draws, as `line 0 0 4 0 *`, and sends it to all others. Refused where the host does not take it.
+    /** Waits until it may draw. It only listens first, unless its record ended as it should: its number may have drawn before. */
+    ready(): Promise<void>;
+    /** Draws, as `line 0 0 4 0 *`, and sends it to all others, once it is `ready`. Refused where the host does not take it. Where the record can't be
+     * written the member breaks off.
      * @param {string} page @param {string} operation */
     draw(page: string, operation: string): Promise<import("./host.js").Answer>;
-    /** @param {Uint8Array} datagram */
-    take(datagram: Uint8Array): void;
+    /** Draws one after another, until one has no room. Nothing else of this member comes between them.
+     * @param {string} page @param {string[]} operations */
+    drawAll(page: string, operations: string[]): Promise<import("./host.js").Answer[]>;
+    /** @param {Uint8Array} datagram @param {bigint} [place] from where it came */
+    take(datagram: Uint8Array, place?: bigint | undefined): void;
     /** @param {import('./wb.js').Answer} answer */
     obey(answer: import('./wb.js').Answer): void;
     /** Sets the timer to what is due next. */
     wait(): void;
-    /** The host has ended, or the socket.
+    /** The host has ended, or the socket, or the record can't be written.
      * @param {Error} fault */
     breakOff(fault: Error): void;
     /** Ends it: the socket is closed, and the host is let go. */
@@ -65,5 +76,8 @@ export type Place = {
     to?: Address[] | undefined;
 };
 import { Program } from "./wb.js";
+import { Record } from "./record.js";
+import { RecordedHost } from "./record.js";
 import { EventEmitter } from "node:events";
 import { Host } from "./wb.js";
+export { Record, RecordedHost };

@@ -1,9 +1,12 @@
-/** For Node: the module from its file, and a member over UDP. */
+/** For Node: the module from its file, a member over UDP, and its record. */
 import { createSocket } from 'node:dgram';
 import { EventEmitter } from 'node:events';
 import { readFile } from 'node:fs/promises';
 import { isWide } from './host.js';
-import { Host, Program } from './wb.js';
+import { Record, RecordedHost } from './record.js';
+import { Host, Program, Refused } from './wb.js';
+
+export { Record, RecordedHost };
 
 /** Where the module may be: in the package, and where a checkout builds it. */
 const FOLDERS = [new URL('./', import.meta.url), new URL('../out/modules/', import.meta.url)];
@@ -29,8 +32,8 @@ export async function load(file, wide = file === undefined && isWide()) {
  * @property {Address[]} [to] */
 
 /** A host that has a socket and a clock: it hands in what comes, ticks when something is due, and sends what is answered. It tells `change` with
- * the page that something new was drawn on, and `fault` once it has broken off. Datagrams are neither signed nor sealed: whoever is on the network
- * can read and draw. */
+ * the page that something new was drawn on, and `fault` once it has broken off, which is a warning of the process if nobody listens to that.
+ * Datagrams are neither signed nor sealed: whoever is on the network can read and draw. */
 export class Member extends EventEmitter {
   /** @param {Host} host @param {Address[]} to */
   constructor(host, to) {
@@ -40,18 +43,28 @@ export class Member extends EventEmitter {
     this.began = process.hrtime.bigint();
     this.socket = createSocket({ type: 'udp4', reuseAddr: true });
     this.socket.on('error', (fault) => this.breakOff(fault));
-    this.socket.on('message', (datagram) => this.take(datagram));
+    this.socket.on('message', (datagram, from) => this.take(datagram, placeOf(from)));
     this.isOver = false;
+    /** @type {() => void} */
+    this.stopListening = () => {};
+    this.listened = new Promise((/** @type {(value: void) => void} */ done) => {
+      // a timer may be a millisecond early
+      const timer = setTimeout(done, host.readyAt > host.begun ? (host.readyAt - host.begun) / 1000 + 2 : 0);
+      this.stopListening = () => {
+        clearTimeout(timer);
+        done();
+      };
+    });
     /** @type {NodeJS.Timeout | undefined} */
     this.timer = undefined;
     /** @type {Promise<unknown>} */
     this.last = Promise.resolve();
   }
 
-  /** Opens a member, by its number or with a host of its own.
-   * @param {number | Host} member @param {Place & Partial<import('./wb.js').Opening>} place */
-  static async open(member, { group, interface: on = '0.0.0.0', bind = { address: '0.0.0.0', port: 0 }, to = [], program, ...opening }) {
-    const host = member instanceof Host ? member : await Host.open(member, { program: program ?? await load(), ...opening });
+  /** Opens a member, by its number or with a host of its own. It goes on from its record, if that is named.
+   * @param {number | Host} member @param {Place & Partial<import('./wb.js').Opening> & { record?: string }} place */
+  static async open(member, { group, interface: on = '0.0.0.0', bind = { address: '0.0.0.0', port: 0 }, to = [], program, record, ...opening }) {
+    const host = member instanceof Host ? member : await opened(member, record, { program: program ?? await load(), ...opening });
     const made = new Member(host, group ? [group] : to), socket = made.socket;
     await new Promise((/** @type {(value: void) => void} */ done, fail) => {
       socket.once('error', fail);
@@ -66,9 +79,9 @@ export class Member extends EventEmitter {
     return made;
   }
 
-  /** The moment: microseconds since the start, which never go back. */
+  /** The moment, in microseconds, which never goes back. */
   now() {
-    return Number((process.hrtime.bigint() - this.began) / 1000n);
+    return this.host.begun + Number((process.hrtime.bigint() - this.began) / 1000n);
   }
 
   /** Where this member hears. */
@@ -88,21 +101,38 @@ export class Member extends EventEmitter {
     return done;
   }
 
-  /** Draws, as `line 0 0 4 0 *`, and sends it to all others. Refused where the host does not take it.
+  /** Waits until it may draw. It only listens first, unless its record ended as it should: its number may have drawn before. */
+  ready() {
+    return this.listened;
+  }
+
+  /** Draws, as `line 0 0 4 0 *`, and sends it to all others, once it is `ready`. Refused where the host does not take it. Where the record can't be
+   * written the member breaks off.
    * @param {string} page @param {string} operation */
-  draw(page, operation) {
+  async draw(page, operation) {
+    const [answer] = await this.drawAll(page, [operation]);
+    return /** @type {import('./wb.js').Answer} */ (answer);
+  }
+
+  /** Draws one after another, until one has no room. Nothing else of this member comes between them.
+   * @param {string} page @param {string[]} operations */
+  async drawAll(page, operations) {
+    await this.listened;
     return this.inTurn(async (now) => {
-      const answer = this.host.add(now, BigInt(Date.now()) * 1000n, page, operation);
-      this.obey(answer);
-      if (answer.became !== 'full') this.emit('change', page);
-      return answer;
+      const answers = this.host.addAll(now, BigInt(Date.now()) * 1000n, page, operations);
+      for (const answer of answers) this.obey(answer);
+      if (answers.some((answer) => answer.became !== 'full')) this.emit('change', page);
+      return answers;
+    }).catch((fault) => {
+      if (!(fault instanceof Refused)) this.breakOff(fault);
+      throw fault;
     });
   }
 
-  /** @param {Uint8Array} datagram */
-  take(datagram) {
+  /** @param {Uint8Array} datagram @param {bigint} [place] from where it came */
+  take(datagram, place) {
     this.inTurn(async (now) => {
-      const answer = this.host.came(now, datagram);
+      const answer = this.host.came(now, datagram, place);
       this.obey(answer);
       if (answer.became === 'new') this.emit('change', pageIn(datagram));
     }).catch((fault) => this.breakOff(fault));
@@ -129,12 +159,12 @@ export class Member extends EventEmitter {
     }, milliseconds);
   }
 
-  /** The host has ended, or the socket.
+  /** The host has ended, or the socket, or the record can't be written.
    * @param {Error} fault */
   breakOff(fault) {
     if (this.isOver) return;
     this.end();
-    this.emit('fault', fault);
+    if (!this.emit('fault', fault)) process.emitWarning(fault);
   }
 
   /** Ends it: the socket is closed, and the host is let go. */
@@ -142,9 +172,21 @@ export class Member extends EventEmitter {
     if (this.isOver) return;
     this.isOver = true;
     clearTimeout(this.timer);
+    this.stopListening();
     this.socket.close();
     this.host.end();
   }
+}
+
+/** @param {number} member @param {string | undefined} record @param {import('./wb.js').Opening} opening @returns {Promise<Host>} */
+function opened(member, record, opening) {
+  return record === undefined ? Host.open(member, opening) : RecordedHost.open(member, { ...opening, record });
+}
+
+/** The number of a place in 64 bits: the address and the port.
+ * @param {Address} from */
+function placeOf({ address, port }) {
+  return address.split('.').reduce((all, part) => (all << 8n) + BigInt(part), 0n) * 65_536n + BigInt(port);
 }
 
 /** The page of a datagram that has a drawop: behind the head of 8 bytes stand its source and its page.

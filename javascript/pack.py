@@ -15,7 +15,7 @@ HERE = Path(__file__).resolve().parent
 HOST = HERE.parent / "web" / "member" / "host.js"
 THIRD_PARTY = HERE.parent / "tools" / "installed" / "THIRD-PARTY"
 
-FILES = ("README.md", "host.d.ts", "node.d.ts", "node.js", "package.json", "wb.d.ts", "wb.js")
+FILES = ("README.md", "host.d.ts", "node.d.ts", "node.js", "package.json", "record.d.ts", "record.js", "wb.d.ts", "wb.js")
 MODULES = ("wb-any.wasm", "wb.wasm")
 
 

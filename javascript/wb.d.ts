@@ -1,8 +1,15 @@
-/** A call that is the program's own was refused. It changed nothing. */
+/** A seed that nobody guesses. */
+export function anySeed(): bigint;
+/** A call that is the program's own was refused. It changed nothing. `fault` says why, as `listening`. */
 export class Refused extends Error {
+    /** @param {string} call @param {string} fault */
+    constructor(call: string, fault: string);
+    fault: string;
 }
+/** Microseconds for which a member only listens whose number may have drawn before. */
+export const LISTENING: 6000000;
 /** A self-managing member: it asks for what it lacks, reports, repairs, and answers others. Moments are microseconds below 2^48 that never
- * go back; begin near 0. Each call answers before it returns. */
+ * go back; begin near `begun`. Each call answers before it returns. */
 export class Host {
     /** Opens one. `member` is its number, which no other member of the session has.
      * @param {number} member @param {Opening} opening */
@@ -16,6 +23,9 @@ export class Host {
     /** The moment at which to call `tick` next.
      * @type {number | null} */
     due: number | null;
+    /** The moment of its beginning, and the one from which on it may draw. */
+    begun: number;
+    readyAt: number;
     /** What takes the calls. HostEnded where it was ended. */
     live(): BareHost;
     /** The block of a line.
@@ -25,9 +35,10 @@ export class Host {
     must(line: string): Block;
     /** @param {Answer} answer */
     heed(answer: Answer): Answer;
-    /** A datagram came in. The answer refuses bytes that are not one, or that no host takes; this program is not to blame.
-     * @param {number} now @param {Uint8Array} datagram */
-    came(now: number, datagram: Uint8Array): Answer;
+    /** A datagram came in. The answer refuses bytes that are not one, or that no host takes; this program is not to blame. From which place, only
+     * a host with a record minds.
+     * @param {number} now @param {Uint8Array} datagram @param {bigint} [_place] @returns {Answer} */
+    came(now: number, datagram: Uint8Array, _place?: bigint | undefined): Answer;
     /** Time is `now`: to be called when the clock comes to `due`, and before more is handed in then.
      * @param {number} now */
     tick(now: number): Answer;
@@ -35,6 +46,9 @@ export class Host {
      * seen: use the microseconds of the time of day.
      * @param {number} now @param {number | bigint} time @param {string} page as `1/1` @param {string} operation @returns {Answer} */
     add(now: number, time: number | bigint, page: string, operation: string): Answer;
+    /** Draws one after another, until one has no room. Refused at the first that the host does not take; those before it are drawn.
+     * @param {number} now @param {number | bigint} time @param {string} page @param {string[]} operations @returns {Answer[]} */
+    addAll(now: number, time: number | bigint, page: string, operations: string[]): Answer[];
     /** Gives the timers other constants, 1 to 16 each.
      * @param {number} c1 @param {number} c2 @param {number} d1 @param {number} d2 */
     tune(c1: number, c2: number, d1: number, d2: number): void;
@@ -86,7 +100,7 @@ export type Gap = {
 };
 /**
  * How a host is opened. `cells` is the room of its board, `rate` the bytes a second that the reports of all members may take, and `listen` the
- * microseconds for which it only listens: 0 for a new number, 6,000,000 for one that may have drawn before.
+ * microseconds for which it only listens and draws nothing: 0 only for a number that never drew.
  */
 export type Opening = {
     /**

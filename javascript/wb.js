@@ -3,8 +3,17 @@ import { Answer, Block, HostEnded, Host as BareHost, Program } from './host.js';
 
 export { Answer, BareHost, HostEnded, Program };
 
-/** A call that is the program's own was refused. It changed nothing. */
-export class Refused extends Error {}
+/** A call that is the program's own was refused. It changed nothing. `fault` says why, as `listening`. */
+export class Refused extends Error {
+  /** @param {string} call @param {string} fault */
+  constructor(call, fault) {
+    super(`${call.slice(0, 80)}: ${fault}`);
+    this.fault = fault;
+  }
+}
+
+/** Microseconds for which a member only listens whose number may have drawn before. */
+export const LISTENING = 6_000_000;
 
 /** @typedef {import('./host.js').Became} Became */
 
@@ -23,7 +32,7 @@ export class Refused extends Error {}
  * @property {number} last */
 
 /** How a host is opened. `cells` is the room of its board, `rate` the bytes a second that the reports of all members may take, and `listen` the
- * microseconds for which it only listens: 0 for a new number, 6,000,000 for one that may have drawn before.
+ * microseconds for which it only listens and draws nothing: 0 only for a number that never drew.
  * @typedef {object} Opening
  * @property {Program} program the module, as `Program.load` or `load` of node.js gives it
  * @property {number} [cells]
@@ -42,7 +51,7 @@ function wordsOf(page) {
 }
 
 /** A self-managing member: it asks for what it lacks, reports, repairs, and answers others. Moments are microseconds below 2^48 that never
- * go back; begin near 0. Each call answers before it returns. */
+ * go back; begin near `begun`. Each call answers before it returns. */
 export class Host {
   /** @param {number} member @param {BareHost} bare */
   constructor(member, bare) {
@@ -53,14 +62,17 @@ export class Host {
     /** The moment at which to call `tick` next.
      * @type {number | null} */
     this.due = null;
+    /** The moment of its beginning, and the one from which on it may draw. */
+    this.begun = this.readyAt = 0;
   }
 
   /** Opens one. `member` is its number, which no other member of the session has.
    * @param {number} member @param {Opening} opening */
-  static async open(member, { program, cells = 65_535, seed, rate = 4_000, listen = 0 }) {
+  static async open(member, { program, cells = 65_535, seed, rate = 4_000, listen = LISTENING }) {
     const host = new Host(member, await program.start());
-    host.must(`board ${member} ${cells} 1 ${seed ?? crypto.getRandomValues(new BigUint64Array(1))[0]}`);
+    host.must(`board ${member} ${cells} 1 ${seed ?? anySeed()}`);
     host.must(`keep ${rate} ${listen}`);
+    host.readyAt = listen;
     return host;
   }
 
@@ -73,7 +85,7 @@ export class Host {
   /** The block of a line.
    * @param {string} line @returns {Block} */
   ask(line) {
-    if (line.includes('\n')) throw new Refused('a line feed in a line');
+    if (line.includes('\n')) throw new Refused(line.split('\n', 1)[0] ?? '', 'a line feed in a line');
     const block = this.live().ask(line);
     if (block.fault === null) this.due = block.due;
     return block;
@@ -82,7 +94,7 @@ export class Host {
   /** @param {string} line */
   must(line) {
     const block = this.ask(line);
-    if (block.fault !== null) throw new Refused(`${line.slice(0, 80)}: ${block.fault}`);
+    if (block.fault !== null) throw new Refused(line, block.fault);
     return block;
   }
 
@@ -92,9 +104,10 @@ export class Host {
     return answer;
   }
 
-  /** A datagram came in. The answer refuses bytes that are not one, or that no host takes; this program is not to blame.
-   * @param {number} now @param {Uint8Array} datagram */
-  came(now, datagram) {
+  /** A datagram came in. The answer refuses bytes that are not one, or that no host takes; this program is not to blame. From which place, only
+   * a host with a record minds.
+   * @param {number} now @param {Uint8Array} datagram @param {bigint} [_place] @returns {Answer} */
+  came(now, datagram, _place) {
     return this.heed(this.live().came(now, datagram));
   }
 
@@ -102,7 +115,7 @@ export class Host {
    * @param {number} now */
   tick(now) {
     const answer = this.heed(this.live().tick(now));
-    if (answer.refused !== null) throw new Refused(`tick ${now}: ${answer.refused}`);
+    if (answer.refused !== null) throw new Refused(`tick ${now}`, answer.refused);
     return answer;
   }
 
@@ -112,6 +125,18 @@ export class Host {
   add(now, time, page, operation) {
     const block = this.must(`add ${now} ${time} ${page} ${operation}`), became = OUTCOMES[block.lines[block.lines.length - 1] ?? ''] ?? null;
     return Object.assign(new Answer(), { send: block.sent(), due: this.due, became });
+  }
+
+  /** Draws one after another, until one has no room. Refused at the first that the host does not take; those before it are drawn.
+   * @param {number} now @param {number | bigint} time @param {string} page @param {string[]} operations @returns {Answer[]} */
+  addAll(now, time, page, operations) {
+    const answers = [];
+    for (const operation of operations) {
+      const answer = this.add(now, time, page, operation);
+      answers.push(answer);
+      if (answer.became === 'full') break;
+    }
+    return answers;
   }
 
   /** Gives the timers other constants, 1 to 16 each.
@@ -181,6 +206,11 @@ export class Host {
   end() {
     this.bare = null;
   }
+}
+
+/** A seed that nobody guesses. */
+export function anySeed() {
+  return /** @type {bigint} */ (crypto.getRandomValues(new BigUint64Array(1))[0]);
 }
 
 /** @param {Block} block */

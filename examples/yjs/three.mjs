@@ -4,12 +4,12 @@ import { Member, load } from 'wb/node.js';
 import { Provider } from './provider.mjs';
 
 const program = await load(), here = { address: '127.0.0.1', port: 0 };
-const members = await Promise.all([1, 2, 3].map((number) => Member.open(number, { program, bind: here })));
+const members = await Promise.all([1, 2, 3].map((number) => Member.open(number, { program, bind: here, listen: 0 })));
 for (const member of members) {
   member.to = members.filter((other) => other !== member).map((other) => other.address());
   const take = member.take.bind(member);
-  member.take = (datagram) => {
-    if (Math.random() >= 1 / 3) take(datagram);
+  member.take = (datagram, place) => {
+    if (Math.random() >= 1 / 3) take(datagram, place);
   };
 }
 

@@ -2,7 +2,7 @@
 declare module 'node:dgram' {
   export interface Socket {
     on(name: 'error', listener: (fault: Error) => void): this;
-    on(name: 'message', listener: (datagram: Uint8Array) => void): this;
+    on(name: 'message', listener: (datagram: Uint8Array, from: { address: string, port: number }) => void): this;
     once(name: 'error', listener: (fault: Error) => void): this;
     bind(port: number, address: string, done: () => void): void;
     addMembership(group: string, on: string): void;
@@ -21,6 +21,21 @@ declare module 'node:events' {
     emit(name: string, ...told: any[]): boolean;
   }
 }
+declare module 'node:fs' {
+  export function openSync(path: string, flags: string, mode?: number): number;
+  export function readFileSync(path: string, encoding: 'latin1'): string;
+  export function writeSync(file: number, text: string, position: null, encoding: 'latin1'): number;
+  export function fsyncSync(file: number): void;
+  export function ftruncateSync(file: number, size: number): void;
+  export function closeSync(file: number): void;
+}
+declare module 'node:crypto' {
+  export function randomInt(max: number): number;
+}
+declare module 'node:path' {
+  export function dirname(path: string): string;
+  export function resolve(path: string): string;
+}
 declare module 'node:fs/promises' {
   export function readFile(file: URL | string): Promise<Uint8Array>;
 }
@@ -29,4 +44,4 @@ declare namespace NodeJS {
 }
 declare function setTimeout(call: () => void, milliseconds: number): NodeJS.Timeout;
 declare function clearTimeout(timer: NodeJS.Timeout | undefined): void;
-declare const process: { hrtime: { bigint(): bigint } };
+declare const process: { hrtime: { bigint(): bigint }, emitWarning(fault: Error): void };

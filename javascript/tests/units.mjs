@@ -1,6 +1,9 @@
 // units.mjs MODULE: the package over a module. The last line is 'N passed, M failed'.
+import { appendFileSync, mkdtempSync, readFileSync, rmSync, writeFileSync } from 'node:fs';
+import { tmpdir } from 'node:os';
+import { join } from 'node:path';
 import { Host, HostEnded, Refused } from '../wb.js';
-import { Member, load } from '../node.js';
+import { Member, RecordedHost, load } from '../node.js';
 
 let passed = 0, failed = 0;
 
@@ -23,13 +26,23 @@ async function raised(call) {
   return 'nothing';
 }
 
+/** Why a call is refused. */
+async function refused(call) {
+  try {
+    await call();
+  } catch (fault) {
+    return fault.fault ?? `${fault}`;
+  }
+  return 'nothing';
+}
+
 const program = await load(process.argv[2]);
 
 /** What a host that is not judged answers. */
 const brief = ({ send, due, became, refused }) => ({ send, due, became, refused });
 
 // hosts
-const one = await Host.open(1, { program, seed: 42n }), two = await Host.open(2, { program, seed: 43n, listen: 1000 });
+const one = await Host.open(1, { program, seed: 42n, listen: 0 }), two = await Host.open(2, { program, seed: 43n, listen: 1000 });
 judge('a host has something to do', one.due, 34_890);
 const drawn = await one.add(1000, 5, '1/1', 'line 0 0 4 0 *');
 judge('a drawing is sent', drawn.send.map((datagram) => datagram.length), [42]);
@@ -39,7 +52,8 @@ judge('it is shown', await two.show('1/1', 6, 1), ['***** ']);
 judge('and told', await two.view('1/1'), [{ source: 1, page: '1/1', number: 1, time: 5n, operation: 'line 0 0 4 0 *' }]);
 const { due } = two;
 judge('what is no datagram is refused, and what is due is as it was', brief(await two.came(700, new Uint8Array([87, 66]))), { send: [], due, became: null, refused: 'datagram 1' });
-judge('so is a drawing while it listens', await raised(() => two.add(800, 5, '1/1', 'line 0 0 4 0 +')), 'Refused');
+judge('so is a drawing while it listens', await refused(() => two.add(800, 5, '1/1', 'line 0 0 4 0 +')), 'listening');
+judge('a letter of no drawing is refused', await refused(() => one.add(1001, 5, '1/1', 'text 0 0 "\u{1f600}"')), 'word 7: text byte outside space to ~');
 judge('after which it is known too', two.due, due);
 judge('time goes on', await raised(() => two.tick(10)), 'Refused');
 judge('questions', [await two.report('1/1'), await two.gaps('1/1'), await two.pages(), await two.known(), await two.nextNumber('1/1'), await two.version()], [[[1, 1]], [], ['1/1'], ['1/1'], 1, 1]);
@@ -48,7 +62,7 @@ judge('a row that looks like a closing line is a row', (await two.show('1/1', 4,
 judge('a line has no line feed in it', await raised(() => two.add(3000, 7, '1/1', 'line 0 0 4 0 *\n')), 'Refused');
 const many = await Promise.all([1, 2, 3].map((at) => one.add(2000 + at, 5 + at, '1/1', `line 0 ${at} 4 ${at} *`)));
 judge('calls that overlap are done in their order', many.map((answer) => answer.send.length), [1, 1, 1]);
-const full = await Host.open(3, { program, cells: 1 });
+const full = await Host.open(3, { program, cells: 1, listen: 0 });
 await full.add(1, 1, '1/1', 'line 0 0 4 0 *');
 judge('a full board', (await full.add(2, 2, '1/1', 'line 0 0 4 0 *')).became, 'full');
 full.end();
@@ -56,6 +70,33 @@ judge('a host that is gone is said', await raised(() => full.tick(9)), HostEnded
 judge('and a board that none can have', await raised(() => Host.open(3, { program, cells: 0 })), Refused.name);
 one.end();
 two.end();
+const listening = await Host.open(4, { program });
+judge('a host listens for six seconds', [await refused(() => listening.add(5_999_999, 5, '1/1', 'line 0 0 4 0 +')), await refused(() => listening.add(6_000_000, 5, '1/1', 'line 0 0 4 0 +'))],
+  ['listening', 'nothing']);
+
+// a host with a record
+const folder = mkdtempSync(join(tmpdir(), 'wb-')), record = join(folder, 'record'), again = () => RecordedHost.open(7, { program, record });
+const kept = await again();
+judge('a new record listens first', [kept.readyAt - kept.begun, await refused(() => kept.add(kept.begun + 1, 5, '1/1', 'line 0 0 4 0 *'))], [6_000_000, 'listening']);
+const said = kept.add(kept.readyAt, 10 ** 15, '1/1', 'line 0 0 4 0 *');
+judge('what it drew is in the record', [said.became, said.send.length > 0, readFileSync(record, 'latin1').endsWith('say draw 7 1/1 1 1000000000000000 line 0 0 4 0 *\n')], ['new', true, true]);
+const theirs = said.send[said.send.length - 1].slice();
+theirs[11] = 9;
+judge('what comes in is new', [kept.came(kept.readyAt + 5, theirs, 5n).became, kept.came(kept.readyAt + 6, theirs.subarray(0, 9), 5n).refused], ['new', 'dropped datagram']);
+const page = kept.view('1/1'), last = kept.readyAt + 6;
+kept.end();
+const gone = await again();
+judge('it goes on where it ended', [gone.view('1/1'), gone.nextNumber('1/1'), gone.begun > last, gone.readyAt - gone.begun], [page, 2, true, 0]);
+gone.record.isBroken = true; // as by a crash
+gone.end();
+appendFileSync(record, 'say draw 7 1/1 2 1');
+const third = await again();
+judge('after a crash it listens', [third.nextNumber('1/1'), third.readyAt - third.begun], [2, 6_000_000]);
+third.end();
+judge('another member has its own', await refused(() => RecordedHost.open(8, { program, record })), 'it is no record of member 8');
+writeFileSync(record, 'Dear reader');
+judge('what is no record stays as it is', [await refused(again), readFileSync(record, 'latin1')], ['it is no record', 'Dear reader']);
+rmSync(folder, { recursive: true });
 
 // the calls by bytes: the conversation of docs/HOST-LINES.md with a self-managing host
 const hex = (bytes) => Buffer.from(bytes).toString('hex'), unhex = (digits) => new Uint8Array(Buffer.from(digits, 'hex'));
@@ -95,7 +136,7 @@ judge('one that broke off says so, and so it does from then on', [await raised((
 
 // three members over UDP that lose a third
 const here = { address: '127.0.0.1', port: 0 };
-const members = await Promise.all([1, 2, 3].map((number) => Member.open(number, { program, bind: here })));
+const members = await Promise.all([1, 2, 3].map((number) => Member.open(number, { program, bind: here, listen: 0 })));
 let state = 7;
 for (const member of members) {
   member.to = members.filter((other) => other !== member).map((other) => other.address());
@@ -117,6 +158,12 @@ await whole;
 clearTimeout(late);
 const views = await Promise.all(members.map((member) => member.host.view('1/1')));
 judge('three members over UDP that lose a third show one page', views.map((view) => told(view) === told(views[0])), [true, true, true]);
+const lost = new Promise((done) => process.once('unhandledRejection', (fault) => done(fault.fault)));
+members[1].draw('1/1', 'line 0 0 9 0');
+judge('a fault of a drawing that nobody awaits is not lost', await lost, 'word 9: missing');
+const warned = new Promise((done) => process.once('warning', (fault) => done(fault.message)));
+(await Member.open(4, { program, bind: here })).breakOff(new Error('it broke off'));
+judge('nor is one that nobody listens for', await Promise.race([warned, new Promise((done) => setTimeout(done, 5000))]), 'it broke off');
 members[0].host.end();
 const ended = new Promise((done) => members[0].on('fault', (fault) => done(fault.constructor.name)));
 members[0].take(new Uint8Array([87, 66]));

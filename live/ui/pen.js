@@ -18,7 +18,7 @@ const RESTS = 700, NEAR_CELLS = 14;
 /** A hand's way is kept as near as this many points of the screen; points of it that are nearer to one another are one. */
 const NEAR = 0.55, APART = 0.6;
 
-/** A stroke that is about straight becomes so if the pen rests for this many milliseconds at its end; and how far off it may be, as a part of its length. */
+/** A stroke that is about straight becomes so if the pen rests for this many milliseconds at its end; how far it may be off, as a part of its length. */
 const HELD = 600, ABOUT_STRAIGHT = 0.12;
 
 /** After this many more points, whether a text is full is looked at. */

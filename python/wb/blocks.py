@@ -11,9 +11,13 @@ class Block(NamedTuple):
     due: Optional[int]
     fault: Optional[str]
 
+    def said(self, word: str) -> List[str]:
+        """What its lines say that begin with this word."""
+        return [line[len(word) + 1:] for line in self.lines if line.startswith(word + " ")]
+
     def sent(self) -> List[str]:
         """The datagrams to send, in hexadecimal."""
-        return [line[5:] for line in self.lines if line.startswith("send ")]
+        return self.said("send")
 
 
 def block_of(lines: Sequence[str], due: Optional[int]) -> Block:
@@ -22,6 +26,14 @@ def block_of(lines: Sequence[str], due: Optional[int]) -> Block:
     if last.startswith("refused "):
         return Block(list(lines[:-1]), due, last[8:])
     return Block(list(lines[:-1]), None if last == "ok never" else int(last[3:]), None)
+
+
+def bytes_of(line: str) -> bytes:
+    """The bytes of a line, in Latin-1. No drawing has a letter beyond that: such a line goes in UTF-8, and the host refuses it."""
+    try:
+        return line.encode("latin-1")
+    except UnicodeEncodeError:
+        return line.encode("utf-8", "surrogatepass")
 
 
 def is_closing(line: bytes) -> bool:

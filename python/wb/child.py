@@ -4,11 +4,12 @@ from __future__ import annotations
 import os
 import select
 import subprocess
+import threading
 import time
 from collections import deque
 from typing import Deque, List, Optional, Sequence
 
-from .blocks import Block, block_of, is_closing, rows_of
+from .blocks import Block, block_of, bytes_of, is_closing, rows_of
 
 # seconds in which a child has to print something that it owes
 PATIENCE = 10.0
@@ -117,10 +118,11 @@ class Child:
 
 
 class ChildHost(Child):
-    """`wb host` with these words after it."""
+    """`wb host` with these words after it. Threads that ask it at once wait for one another."""
 
     def __init__(self, program: str, *words: str, patience: float = PATIENCE) -> None:
         super().__init__([program, "host", *words], patience)
+        self.lock = threading.RLock()
         self.has_board = False
         self.due: Optional[int] = None  # behind the last line whose block was read
 
@@ -134,28 +136,30 @@ class ChildHost(Child):
         return block
 
     def block(self, line: str) -> Block:
-        block = block_of([text.decode("latin-1") for text in self.printed(line.encode("latin-1"))], self.due)
+        block = block_of([text.decode("latin-1") for text in self.printed(bytes_of(line))], self.due)
         self.due = block.due
         return block
 
     def ask(self, line: str) -> Block:
         """The block of a line."""
-        self.give([line.encode("latin-1")])
-        # nothing else is under way, so most blocks come whole in one piece, of which no part waits
-        if not (self.outgoing or self.lines or self.partial or "show" in line or "board" in line):
-            lines = self.piece().decode("latin-1").split("\n")
-            last = lines[-2] if len(lines) > 1 else ""
-            if last.startswith("ok ") and not lines[-1]:
-                self.due = due = None if last == "ok never" else int(last[3:])
-                return Block(lines[:-2], due, None)
-            self.take("\n".join(lines).encode("latin-1"))
-        return self.block(line)
+        with self.lock:
+            self.give([bytes_of(line)])
+            # nothing else is under way, so most blocks come whole in one piece, of which no part waits
+            if not (self.outgoing or self.lines or self.partial or "show" in line or "board" in line):
+                lines = self.piece().decode("latin-1").split("\n")
+                last = lines[-2] if len(lines) > 1 else ""
+                if last.startswith("ok ") and not lines[-1]:
+                    self.due = due = None if last == "ok never" else int(last[3:])
+                    return Block(lines[:-2], due, None)
+                self.take("\n".join(lines).encode("latin-1"))
+            return self.block(line)
 
     def ask_all(self, lines: Sequence[str]) -> List[Block]:
         """The block of each line. Many are given at a time, which takes less time than one after another."""
         blocks: List[Block] = []
-        for start in range(0, len(lines), LINES):
-            some = lines[start:start + LINES]
-            self.give([line.encode("latin-1") for line in some])
-            blocks += [self.block(line) for line in some]
+        with self.lock:
+            for start in range(0, len(lines), LINES):
+                some = lines[start:start + LINES]
+                self.give([bytes_of(line) for line in some])
+                blocks += [self.block(line) for line in some]
         return blocks

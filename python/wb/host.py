@@ -14,6 +14,9 @@ from .program import find_library, find_program
 # cells of a board at most, and so its drawops
 MOST_CELLS = 65_535
 
+# microseconds for which a member only listens whose number may have drawn before
+LISTENING = 6_000_000
+
 
 class Page(NamedTuple):
     """A page: the member that created it, and its number."""
@@ -45,12 +48,13 @@ class Became(enum.Enum):
 
 class Answer(NamedTuple):
     """What a call came to: datagrams to be sent to all others, and what became of a drawop. If the call was refused, why: then
-    nothing has changed. `due` is the moment at which to call `tick` next, if there is one."""
+    nothing has changed. `due` is the moment at which to call `tick` next, if there is one. A host with a record may warn people."""
 
     send: List[bytes]
     due: Optional[int]
     became: Optional[Became] = None
     refused: Optional[str] = None
+    warning: Optional[str] = None
 
 
 class Drawop(NamedTuple):
@@ -72,7 +76,11 @@ class Gap(NamedTuple):
 
 
 class Refused(Exception):
-    """A call that is the program's own was refused. It changed nothing."""
+    """A call that is the program's own was refused. It changed nothing. `fault` says why, as `listening`."""
+
+    def __init__(self, call: str, fault: str) -> None:
+        super().__init__("%s: %s" % (call[:80], fault))
+        self.fault = fault
 
 
 def page_of(page: AnyPage) -> Page:
@@ -95,19 +103,26 @@ def start() -> Union[LibraryHost, ChildHost]:
 
 class Host:
     """A self-managing member: it asks for what it lacks, reports, repairs, and answers others. `member` is its number, which no
-    other member of the session has; `listen` are the microseconds for which it only listens: 0 for a new number, 6,000,000 for one that
-    may have drawn before. Moments are microseconds below 2^48 that never go back; begin near 0. Use it by `with`, or call `end`."""
+    other member of the session has; `listen` are the microseconds for which it only listens and draws nothing: 0 only for a number that
+    never drew. Moments are microseconds below 2^48 that never go back; begin near `begun`. Use it by `with`, or call `end`."""
 
-    def __init__(self, member: int, *, cells: int = MOST_CELLS, seed: Optional[int] = None, rate: int = 4_000, listen: int = 0,
+    begun = 0
+
+    def __init__(self, member: int, *, cells: int = MOST_CELLS, seed: Optional[int] = None, rate: int = 4_000, listen: int = LISTENING,
                  by: Union[LibraryHost, ChildHost, None] = None) -> None:
         self.member = member
         self.by = by or start()
         try:
             self.must("board %d %d 1 %d" % (member, cells, random.SystemRandom().getrandbits(64) if seed is None else seed))
-            self.must("keep %d %d" % (rate, listen))
+            self.keep_itself(rate, listen)
         except BaseException:
             self.by.end()
             raise
+        self.ready_at = self.begun + listen  # from then on it may draw
+
+    def keep_itself(self, rate: int, listen: int) -> None:
+        """Makes it self-managing, once it has a board."""
+        self.must("keep %d %d" % (rate, listen))
 
     def __enter__(self) -> Host:
         return self
@@ -126,11 +141,12 @@ class Host:
     def must(self, line: str) -> Block:
         block = self.by.ask(line)
         if block.fault is not None:
-            raise Refused("%s: %s" % (line[:80], block.fault))
+            raise Refused(line, block.fault)
         return block
 
-    def came(self, now: int, datagram: bytes) -> Answer:
-        """A datagram came in. Bytes that are not one, or that no host takes, are refused; this program is not to blame."""
+    def came(self, now: int, datagram: bytes, place: int = 0) -> Answer:
+        """A datagram came in. Bytes that are not one, or that no host takes, are refused; this program is not to blame. From which
+        place, only a host with a record minds."""
         return answer_of(self.by.ask("came %d %s" % (now, datagram.hex())))
 
     def tick(self, now: int) -> Answer:

@@ -2,9 +2,10 @@
 from __future__ import annotations
 
 import ctypes
+import threading
 from typing import List, Optional, Sequence
 
-from .blocks import Block, block_of
+from .blocks import Block, block_of, bytes_of
 from .child import HostEnded
 from .program import NoProgram, find_library
 
@@ -39,10 +40,11 @@ def load(path: Optional[str] = None) -> ctypes.CDLL:
 
 
 class LibraryHost:
-    """A host in this process. One call of it at a time: a program with threads gives each host to one of them, or has a lock."""
+    """A host in this process. Threads that ask it at once wait for one another."""
 
     def __init__(self, path: Optional[str] = None) -> None:
         self.library = load(path)
+        self.lock = threading.RLock()
         self.held = Held(None, False)
         self.place = ctypes.byref(self.held)
         self.size = ctypes.c_size_t(0)
@@ -69,8 +71,9 @@ class LibraryHost:
 
     def ask(self, line: str) -> Block:
         """The block of a line."""
-        block = block_of(self.text(line.encode("latin-1")).decode("latin-1").split("\n")[:-1], self.due)
-        self.due = block.due
+        with self.lock:
+            block = block_of(self.text(bytes_of(line)).decode("latin-1").split("\n")[:-1], self.due)
+            self.due = block.due
         return block
 
     def ask_all(self, lines: Sequence[str]) -> List[Block]:
@@ -78,4 +81,5 @@ class LibraryHost:
         return [self.ask(line) for line in lines]
 
     def end(self) -> None:
-        self.library.wb_close(self.place)
+        with self.lock:
+            self.library.wb_close(self.place)

@@ -2,13 +2,16 @@
 from __future__ import annotations
 
 import asyncio
+import ipaddress
 import socket
 import struct
 import time
 from types import TracebackType
 from typing import Any, AsyncIterator, Iterable, List, Optional, Set, Tuple, Type, Union, cast
 
+from .child import HostEnded
 from .host import AnyPage, Answer, Became, Host, Page, page_of
+from .record import RecordedHost
 
 Address = Tuple[str, int]
 
@@ -51,10 +54,11 @@ class Member(asyncio.DatagramProtocol):
         self.fault: Optional[BaseException] = None
 
     @classmethod
-    async def open(cls, member: Union[int, Host], *, group: Optional[Address] = None, interface: str = "0.0.0.0", bind: Address = ("0.0.0.0", 0),
-                   to: Iterable[Address] = ()) -> Member:
-        """Opens a member of a multicast group, as ("239.192.17.1", 8017), or one with an address of its own that sends to others."""
-        host = member if isinstance(member, Host) else Host(member)
+    async def open(cls, member: Union[int, Host], *, record: Optional[str] = None, group: Optional[Address] = None, interface: str = "0.0.0.0",
+                   bind: Address = ("0.0.0.0", 0), to: Iterable[Address] = ()) -> Member:
+        """Opens a member of a multicast group, as ("239.192.17.1", 8017), or one with an address of its own that sends to others. It goes on
+        from its record, if that is named. It draws once it is `ready`."""
+        host = member if isinstance(member, Host) else RecordedHost(member, record) if record is not None else Host(member)
         loop = asyncio.get_running_loop()
         try:
             if group:
@@ -73,8 +77,8 @@ class Member(asyncio.DatagramProtocol):
         self.end()
 
     def now(self) -> int:
-        """The moment: microseconds since the start, which never go back."""
-        self.moment = max(self.moment, (time.monotonic_ns() - self.began) // 1000)
+        """The moment, in microseconds, which never goes back."""
+        self.moment = max(self.moment, self.host.begun + (time.monotonic_ns() - self.began) // 1000)
         return self.moment
 
     def address(self) -> Address:
@@ -94,10 +98,20 @@ class Member(asyncio.DatagramProtocol):
 
     # ---- what people do
 
+    async def ready(self) -> None:
+        """Waits until it may draw. It only listens first, unless its record ended as it should: its number may have drawn before."""
+        while self.now() < self.host.ready_at:
+            await asyncio.sleep((self.host.ready_at - self.moment) / 1e6)
+
     def draw(self, page: AnyPage, operation: str) -> Answer:
-        """Draws, as `line 0 0 4 0 *`, and sends it to all others. Refused where the host does not take it."""
+        """Draws, as `line 0 0 4 0 *`, and sends it to all others. Refused where the host does not take it, as before it is `ready`. Where the
+        record can't be written, by an OSError, it breaks off."""
         self.tick_if_due()
-        answer = self.host.add(self.now(), self.time_of_day() // 1000, page, operation)
+        try:
+            answer = self.host.add(self.now(), self.time_of_day() // 1000, page, operation)
+        except (HostEnded, OSError) as fault:
+            self.break_off(fault)
+            raise
         self.obey(answer)
         if answer.became is not Became.FULL:
             self.tell(page_of(page))
@@ -124,7 +138,7 @@ class Member(asyncio.DatagramProtocol):
     def datagram_received(self, data: bytes, addr: Any) -> None:
         try:
             self.tick_if_due()
-            answer = self.host.came(self.now(), data)
+            answer = self.host.came(self.now(), data, place_of(addr))
             self.obey(answer)
             if answer.became is Became.NEW:
                 self.tell(page_in(data))
@@ -170,9 +184,14 @@ class Member(asyncio.DatagramProtocol):
         self.news.set()
 
     def break_off(self, fault: BaseException) -> None:
-        """The host has ended: whoever waits for changes learns it."""
+        """The host has ended, or its record can't be written: whoever waits for changes learns it."""
         self.fault = fault
         self.end()
+
+
+def place_of(address: Any) -> int:
+    """The number of a place in 64 bits: the address, of which one of IPv6 gives its last part, and the port."""
+    return ((int(ipaddress.ip_address(address[0].partition("%")[0])) << 16) + int(address[1])) % 2**64
 
 
 def page_in(datagram: bytes) -> Page:

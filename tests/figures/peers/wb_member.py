@@ -34,8 +34,8 @@ class Watched(wb.Host):
         c1, c2, d1, d2 = map(int, constants.split(","))
         self.tune(c1, c2, d1, d2)
 
-    def came(self, now: int, datagram: bytes) -> wb.Answer:
-        answer = super().came(now, datagram)
+    def came(self, now: int, datagram: bytes, place: int = 0) -> wb.Answer:
+        answer = super().came(now, datagram, place)
         if answer.became is wb.Became.NEW:
             print("has", *NAME.unpack_from(datagram, NAME_AT), time.monotonic_ns(), flush=True)
         if datagram.startswith(SESSION) and not self.constants:
@@ -62,7 +62,7 @@ async def draw(member: wb.Member, number: int) -> None:
 
 
 async def main(number: int, port: int, constants: str) -> None:
-    host = Watched(number, seed=number)
+    host = Watched(number, seed=number, listen=0)
     host.begin(constants)
     async with await wb.Member.open(host, bind=("127.0.0.1", 0), to=[("127.0.0.1", port)]) as member:
         print("hears", member.address()[1], flush=True)

@@ -1,0 +1,171 @@
+"""A member that goes on where it ended: a judged host, and the file of what it says is to be recorded."""
+from __future__ import annotations
+
+import errno
+import fcntl
+import os
+import random
+import re
+import time
+from pathlib import Path
+from typing import Any, List, Sequence, Union
+
+from .blocks import Block
+from .child import ChildHost
+from .host import LISTENING, MOST_CELLS, AnyPage, Answer, Became, Host, Refused, page_of
+from .library import LibraryHost
+
+# how a record begins, the line of its board after that, and the last line of a member that ended as it should
+FIRST_LINE = "# wb record 1"
+BOARD = re.compile("board ([0-9]{1,10}) ([0-9]{1,5}) 1 ([0-9]{1,20})")
+ENDED = "# ended"
+
+# Moments of a host are below that. The clock of each start begins above the record, anywhere in one part in so many of those that are left,
+# at one that nobody guesses: who echoes a moment of ours has heard it
+MOST_MOMENT = 2**48
+LEAD_PART = 512
+
+# microseconds after which a host gets the time of day again
+MINUTE = 60_000_000
+
+
+class Record:
+    """A file that only grows, and that one process has at a time."""
+
+    def __init__(self, path: str) -> None:
+        self.path = path
+        self.file = os.open(path, os.O_RDWR | os.O_CREAT, 0o600)
+        try:
+            lock(self.file, path)
+            text = os.pread(self.file, os.fstat(self.file).st_size, 0)
+            if not text.startswith(FIRST_LINE.encode()[:len(text)]):
+                raise Refused(path, "it is no record")
+            # a last line without its line feed was cut off, and nothing of it was sent
+            self.size = text.rfind(b"\n") + 1
+            os.ftruncate(self.file, self.size)
+        except BaseException:
+            os.close(self.file)
+            raise
+        self.lines = text[:self.size].decode("latin-1").splitlines()
+        self.is_broken = False
+
+    def add(self, lines: Sequence[str]) -> None:
+        """Puts lines at the end, all or none; what this member drew is on the disk then. OSError where there is no room."""
+        if not lines:
+            return
+        text = "".join(line + "\n" for line in lines).encode("latin-1")
+        try:
+            if os.pwrite(self.file, text, self.size) < len(text):
+                raise OSError(errno.ENOSPC, "there is no room for the record", self.path)
+            if any(line.startswith(("say ", "#")) for line in lines):
+                os.fsync(self.file)
+        except OSError:
+            self.is_broken = True
+            os.ftruncate(self.file, self.size)
+            raise
+        self.size += len(text)
+
+    def sync_name(self) -> None:
+        """Puts the name of a new file on the disk."""
+        folder = os.open(Path(self.path).resolve().parent, os.O_RDONLY)
+        try:
+            os.fsync(folder)
+        finally:
+            os.close(folder)
+
+    def end(self) -> None:
+        """Closes it, and says that nothing was lost."""
+        if self.file >= 0:
+            try:
+                if not self.is_broken:
+                    self.add([ENDED])
+            finally:
+                os.close(self.file)
+                self.file = -1
+
+
+def lock(file: int, path: str) -> None:
+    try:
+        fcntl.flock(file, fcntl.LOCK_EX | fcntl.LOCK_NB)
+    except BlockingIOError as fault:
+        raise Refused(path, "another member has this record") from fault
+
+
+class RecordedHost(Host):
+    """A judged host with a record: it decides also which datagrams it takes, by the place from which each came, and what it holds it holds
+    again when it is started anew. What it drew is on the disk before an answer has it to be sent. If a record ends as it should, its host
+    draws at once; else it listens first. OSError where the record can't be written: end it, and start again."""
+
+    def __init__(self, member: int, record: str, *, cells: int = MOST_CELLS, rate: int = 4_000, listen: int = LISTENING,
+                 by: Union[LibraryHost, ChildHost, None] = None, time_of_day: Any = time.time_ns) -> None:
+        self.record = Record(record)
+        self.time_of_day = time_of_day
+        try:
+            lines = self.record.lines
+            board = BOARD.fullmatch(lines[1]) if len(lines) > 1 else None
+            if len(lines) > 1 and not (board and int(board[1]) == member):
+                raise Refused(record, "it is no record of member %d" % member)
+            seed = int(board[3]) if board else random.SystemRandom().getrandbits(64)
+            self.head = [] if board else [FIRST_LINE, "board %d %d 1 %d" % (member, cells, seed)][len(lines):]
+            super().__init__(member, cells=int(board[2]) if board else cells, seed=seed, rate=rate, listen=0 if ENDED in lines[-1:] else listen, by=by)
+        except BaseException:
+            self.record.is_broken = True
+            self.record.end()
+            raise
+
+    def keep_itself(self, rate: int, listen: int) -> None:
+        last = max((int(line[5:]) for line in self.record.lines if line.startswith("tick ")), default=-1)
+        self.begun = self.told_at = last + 1 + random.SystemRandom().randrange((MOST_MOMENT - last) // LEAD_PART)
+        self.must("judge %d %d %d %d - -" % (self.begun, rate, listen, self.time_of_day() // 1000))
+        for line, block in zip(self.record.lines, self.by.ask_all(["held " + line for line in self.record.lines])):
+            if block.fault is not None:
+                raise Refused("%s: %s" % (self.record.path, line), block.fault)
+        self.record.lines = []
+        self.record.add([*self.head, "# started"])
+        self.record.sync_name()
+
+    def end(self) -> None:
+        super().end()
+        self.record.end()
+
+    def act(self, line: str) -> Block:
+        """The block of a line that acts, once its record is written."""
+        with self.by.lock:
+            block = self.by.ask(line)
+            self.record.add(block.said("record"))
+        return block
+
+    def told(self, now: int, time_of_day: int) -> List[bytes]:
+        """Tells it the time of day, in microseconds since 1970, and gives what is to be sent."""
+        self.told_at = now
+        return judged(self.act("wall %d %d" % (now, time_of_day))).send
+
+    def came(self, now: int, datagram: bytes, place: int = 0) -> Answer:
+        return judged(self.act("came %d %d %s" % (now, place, datagram.hex())))
+
+    def tick(self, now: int) -> Answer:
+        sent = self.told(now, self.time_of_day() // 1000) if now >= self.told_at + MINUTE else []
+        answer = judged(self.act("tick %d" % now))
+        if answer.refused is not None:
+            raise Refused("tick %d" % now, answer.refused)
+        return answer._replace(send=sent + answer.send)
+
+    def add(self, now: int, time: int, page: AnyPage, operation: str) -> Answer:
+        sent, line = self.told(now, time), "add %d %s %s" % (now, page_of(page), operation)
+        answer = judged(self.act(line))
+        if answer.refused == "full":
+            return Answer(sent, answer.due, Became.FULL)
+        if answer.refused is not None:
+            raise Refused(line, answer.refused)
+        return answer._replace(send=sent + answer.send)
+
+
+# what a judged host says became of a drawop
+FATES = {"new": Became.NEW, "again": Became.AGAIN, "clash": Became.CLASH, "left": Became.FULL}
+
+
+def judged(block: Block) -> Answer:
+    """The answer of a judged host."""
+    became, why, warned = (block.said(word) for word in ("became", "dropped", "warn"))
+    fault = block.fault if block.fault is not None else "dropped " + why[0] if why else None
+    return Answer([bytes.fromhex(digits) for digits in block.sent()], block.due, FATES[became[0]] if became else None, fault, warned[0] if warned else None)
