@@ -25,7 +25,6 @@ export class Changing {
     const acts = { 'chosen-delete': () => board.hand.deleteSelected(), 'chosen-twice': () => this.duplicate(), 'chosen-copy': () => this.copy(), 'chosen-front': () => this.toFront() };
     for (const [id, act] of Object.entries(acts)) $(id).addEventListener('click', () => { act(); board.focusSheet(); });
     board.view.onMove(() => this.show());
-    board.session.on('board', () => this.show());
   }
 
   /** Whether ink is selected that can be changed. */

@@ -150,6 +150,13 @@ export class Whiteboard {
     if ($('text').textContent !== text) $('text').textContent = text;
   }
 
+  /** What is selected may have come, or be gone. */
+  showChosen() {
+    if (!this.hand.selection.size && $('chosen').hidden) return;
+    this.style.show();
+    this.changing.show();
+  }
+
   /** What others did is marked, and told.
    * @param {Taken} taken */
   tellChange({ gone, added }) {
@@ -258,7 +265,7 @@ export class Whiteboard {
     session.on('ghosts', () => this.painter.soon());
     session.on('notes', ({ colours }) => this.takeColours(colours));
     session.on('fault', tell);
-    this.ink.changed = () => { this.sight.show(); this.showText(); };
+    this.ink.changed = () => { this.sight.show(); this.showText(); this.showChosen(); };
     for (const show of [showChat, showMembers, showHealth, showWorse]) show(this);
     showPages(session);
     this.listen();

@@ -102,10 +102,10 @@ def test_letters(tally: Tally, anna: Sheet, tom: Sheet) -> None:
     tally.check("a link and letters", both(anna, tom, [["k", 0, 1], ["t", 0, 1]]), anna.page.value(FORMS))
     tom.page.value("window.open = (...words) => { window.opened = words.join(' '); }; 0")
     tom.keys("v")
-    (x, y), = at(tom, (230, 200))
+    (across, down), = at(tom, (230, 200))
     for count in (1, 2):
         for kind in ("mousePressed", "mouseReleased"):
-            tom.page.call("Input.dispatchMouseEvent", type=kind, x=x, y=y, button="left", buttons=1, clickCount=count)
+            tom.page.call("Input.dispatchMouseEvent", type=kind, x=across, y=down, button="left", buttons=1, clickCount=count)
     tally.check("a double click opens the link, which learns nothing of the board", tom.page.wait("window.opened === 'https://example.org/a _blank noopener,noreferrer'"))
     dark = tom.page.value("""(() => {
         const canvas = document.createElement('canvas'), item = wb.ink.items.find(({ kind }) => kind === 't'), width = 900;
