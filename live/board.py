@@ -249,9 +249,11 @@ class Board:
         try:
             if drawop:
                 drawop.digits = next(each for each in block.sent() if name_of(each) == drawop.name)
+                self.is_broken = True
                 keep(drawop)
             self.write(lines)
         except NoRoom:
+            self.is_broken = True
             self.begin_again()
             raise
         self.drawn += [drawop] if drawop else []
@@ -262,7 +264,6 @@ class Board:
         never drawn, also to the host, and nobody was told of its numbers."""
         drawn, self.drawn = self.drawn, []
         try:
-            self.sync_kept()
             self.flush()
         except NoRoom:
             self.begin_again()
@@ -310,9 +311,11 @@ class Board:
         """Puts what is written on the disk. Where that takes nothing, what others gave is written again later, and what we drew is not."""
         unsynced, self.unsynced = self.unsynced, []
         try:
+            self.sync_kept()
             self.record.sync()
         except NoRoom:
             self.is_broken = True
+            self.record.cut(self.record.synced)
             self.unkept = [line for line in unsynced if not line.startswith("say ")] + self.unkept
             raise
 

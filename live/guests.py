@@ -53,6 +53,7 @@ class Guest:
 
     def __init__(self, keeper: Member, hub: Hub, address: str, cookie: str) -> None:
         number = keeper.kept.guests.get(cookie)
+        self.keeps = False  # the window of who keeps the board
         self.cookie = secrets.token_hex(16) if number is None else cookie
         self.is_returning = number is not None
         self.had = [] if number is None else keeper.drawops_of(keeper.kept.drawn_by(number))
@@ -113,6 +114,7 @@ class Guests:
         self.most = keeper.options.guests
         self.changed = threading.Lock()
         self.guests: Dict[str, Guest] = {}
+        self.others_may_clear = True
         self.paid: Dict[str, float] = {}  # new members of an address are paid for up to then
         self.threads: List[threading.Thread] = []
 
@@ -127,8 +129,9 @@ class Guests:
         """Whether a browser was here before: it goes on under its number."""
         return cookie in self.keeper.kept.guests
 
-    def begin(self, address: str, cookie: str = "") -> Guest:
-        """A member for one more browser, or for one that returns. NoPlace if others need all, or if that address had too many new ones."""
+    def begin(self, address: str, cookie: str = "", is_here: bool = False) -> Guest:
+        """A member for one more browser, or for one that returns; the first of this machine is that of who keeps the board. NoPlace if others
+        need all, or if that address had too many new ones."""
         with self.changed:
             there = self.guests.get(cookie)
             if there:
@@ -145,12 +148,25 @@ class Guests:
             except FAULTS as fault:
                 self.keeper.alarms.warn("a member for one more browser can't be started: %s" % fault)
                 raise NoPlace("a member can't be started here now") from fault
+            guest.keeps = is_here and not any(each.keeps for each in self.guests.values())
             self.guests[guest.cookie] = guest
+            self.tell_clearing()
             thread = threading.Thread(target=self.run, args=(guest,), name=guest.cookie, daemon=True)
             self.threads = [each for each in self.threads if each.is_alive()] + [thread]
             thread.start()
         self.hand_over(guest)
         return guest
+
+    def let_clear(self, others: bool) -> Dict[str, bool]:
+        """Whether windows of others offer to clear and delete pages."""
+        self.others_may_clear = others
+        self.tell_clearing()
+        return {"others": others}
+
+    def tell_clearing(self) -> None:
+        for guest in list(self.guests.values()):
+            guest.member.may_clear = guest.keeps or self.others_may_clear
+            guest.member.others_may = self.others_may_clear if guest.keeps else None
 
     def is_leaving(self, cookie: str) -> bool:
         """Whether the member that a browser had before has not ended yet: two would have one number."""

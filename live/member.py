@@ -62,6 +62,8 @@ class Member:
         self.page = FIRST_PAGE
         self.has_turned = False  # until then it goes where something is drawn
         self.is_ready = False
+        self.may_clear = True  # whether its windows offer to clear pages
+        self.others_may: Optional[bool] = None  # of who keeps the board: whether those of others do
         self.is_ended = False
         self.stage = Stage(program, is_proved=True)
         self.synced_at = time.monotonic()

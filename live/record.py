@@ -33,7 +33,8 @@ MOST_END = 64
 # how a record begins: comments, and then the line of the board
 HEAD = re.compile(rb"(?:#[^\n]*\n)*board [0-9]{1,10} [0-9]{1,5} [0-9] [0-9]{1,20}\n")
 MOST_HEAD = 65_536
-
+BEGINNING = FIRST_LINE.encode() + b"\n"
+CUT = re.compile(b"[a-z]{0,5}[0-9 ]{0,40}")  # of the line of the board
 
 # The moments of a host are below 2^48 microseconds. A record has a day left until then, or it would start and draw nothing
 MOST_MOMENT = 2**48 - 86_400 * 10**6
@@ -72,27 +73,58 @@ class NoRoom(Exception):
     """A line could not be written."""
 
 
+def written(file: int) -> int:
+    """How many bytes of a file come before the zeros at its end, which a crash of the machine may leave for what was not written."""
+    end = os.fstat(file).st_size
+    while end:
+        start = max(0, end - MOST_HEAD)
+        part = os.pread(file, end - start, start).rstrip(b"\0")
+        if part:
+            return start + len(part)
+        end = start
+    return 0
+
+
+def is_cut(file: int) -> bool:
+    """Whether a file has no more than a part of a head: a crash cut it off before anything was drawn."""
+    size = written(file)
+    text = os.pread(file, min(size, MOST_END), 0)
+    rest = text[len(BEGINNING):]
+    return size < MOST_END and BEGINNING.startswith(text[:len(BEGINNING)]) and b"board".startswith(rest[:5]) and bool(CUT.fullmatch(rest))
+
+
 def check_head(file: int, path: Optional[str]) -> bool:
-    """Whether a file is empty. One that does not begin as a record is refused, and one of a later version; its rest is not read."""
+    """Whether a file is empty, or has a part of a head. One that does not begin as a record is refused, and one of a later version; its rest is not
+    read."""
     head = os.pread(file, MOST_HEAD, 0)
     version = WRITTEN_BY.match(head)
     if version and int(version[1]) > VERSION:
         raise RecordFault("%s is a record of version %d, of a later wb; this one reads version %d. It stays as it is" % (path, int(version[1]), VERSION))
-    if head and not HEAD.match(head):
+    if HEAD.match(head):
+        return False
+    if not is_cut(file):
         raise RecordFault("%s does not begin as a record: it stays as it is" % path)
-    return not head
+    return True
 
 
-def lines_of(file: int) -> Iterator[str]:
-    """All lines of a file, from the first. A last line that a crash cut off is none."""
+def lines_of(file: int, path: Optional[str]) -> Iterator[str]:
+    """All lines of a file, from the first. A last line that a crash cut off is none. RecordFault at one that is too long, of which no more is read."""
+    number = at = 0
     with open(os.dup(file), "rb") as reader:
         reader.seek(0)
-        yield from (line.rstrip(b"\r\n").decode("latin-1") for line in reader if line.endswith(b"\n"))
+        end = written(file)
+        while at < end:
+            line = reader.readline(MOST_LINE + 1)
+            number, at = number + 1, at + len(line)
+            if line.endswith(b"\n"):
+                yield line.rstrip(b"\r\n").decode("latin-1")
+            elif at < end:
+                raise RecordFault("%s, line %d: it has over %d bytes" % (path or "the record", number, MOST_LINE))
 
 
 def acts_of(file: int, path: Optional[str]) -> Iterator[Act]:
     """The lines that change a host, from the first. RecordFault at one that is none."""
-    for number, line in enumerate(lines_of(file), 1):
+    for number, line in enumerate(lines_of(file, path), 1):
         if line and not line.startswith(QUERIES):
             act = Act(line)
             act.place = "%s, line %d" % (path or "the record", number)
@@ -103,10 +135,12 @@ def acts_of(file: int, path: Optional[str]) -> Iterator[Act]:
 def read_played(path: str) -> Iterator[Act]:
     """The lines that change a host, of a record that is shown and not touched."""
     try:
-        file = os.open(path, os.O_RDONLY)
+        file = os.open(path, os.O_RDONLY | os.O_NONBLOCK)  # else a pipe that nobody writes to holds it
     except OSError as fault:
         raise RecordFault("%s can't be read: %s" % (path, fault.strerror)) from fault
     try:
+        if not stat.S_ISREG(os.fstat(file).st_mode):
+            raise RecordFault("%s is no file" % path)
         if check_head(file, path):
             raise RecordFault("%s is empty" % path)
         yield from acts_of(file, path)
@@ -120,7 +154,11 @@ class Record:
     def __init__(self, path: Optional[str]) -> None:
         self.path = path
         self.file = self.open(path)
-        self.size = self.synced = self.good_size()
+        try:
+            self.size = self.synced = self.good_size()
+        except RecordFault:
+            os.close(self.file)
+            raise
         self.is_named = False  # whether its name is on the disk too, where it may be new
 
     def open(self, path: Optional[str]) -> int:
@@ -148,12 +186,12 @@ class Record:
 
     def good_size(self) -> int:
         """Where the next line begins. A line that a crash cut off was answered to nobody: it is written over."""
-        size = os.fstat(self.file).st_size
+        size = written(self.file)
         start = max(0, size - 2 * MOST_LINE)
-        end = os.pread(self.file, size - start, start).rfind(b"\n") + 1
+        end = 0 if is_cut(self.file) else os.pread(self.file, size - start, start).rfind(b"\n") + 1
         if end == 0 and start > 0:
             raise RecordFault("%s is no record" % self.path)
-        if start + end < size:
+        if start + end < os.fstat(self.file).st_size:
             os.ftruncate(self.file, start + end)
         return start + end
 
@@ -191,16 +229,15 @@ class Record:
     def sync(self) -> None:
         """Puts all lines on the disk: a crash of the machine does not lose them from now on. NoRoom if the disk does not take them: then those since
         the last sync are not in the record."""
-        if self.path is None or (self.is_named and self.synced == self.size):
-            return
-        try:
-            os.fsync(self.file)
-            if not self.is_named:
-                sync_folders(self.path)
-        except OSError as fault:
-            self.cut(self.synced)
-            raise NoRoom(fault.strerror) from fault
-        self.is_named = True
+        if self.path is not None and (self.synced < self.size or not self.is_named):
+            try:
+                os.fsync(self.file)
+                if not self.is_named:
+                    sync_folders(self.path)
+            except OSError as fault:
+                self.cut(self.synced)
+                raise NoRoom(fault.strerror) from fault
+            self.is_named = True
         self.synced = self.size
 
     def remove(self) -> None:

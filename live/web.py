@@ -186,6 +186,8 @@ class Handler(BaseHTTPRequestHandler):
             paths["/film"] = self.film
         else:
             paths["/next"] = self.go_on
+        if self.server.guests:
+            paths["/clearing"] = self.let_clear
         if self.server.member.options.teach:
             paths["/worsen"] = self.worsen
         self.answer(paths)
@@ -235,7 +237,7 @@ class Handler(BaseHTTPRequestHandler):
         guest = guests.find(cookie)
         if guest is None and (may_begin or guests.knows(cookie)):
             try:
-                guest = guests.begin(self.address(), cookie)
+                guest = guests.begin(self.address(), cookie, self.is_here())
             except NoPlace as fault:
                 raise Fault(503, str(fault)) from fault
         if guest is None:
@@ -249,6 +251,10 @@ class Handler(BaseHTTPRequestHandler):
         told: List[str] = self.headers.get_all("X-Forwarded-For") or []
         here = str(self.client_address[0])
         return told[-1].rpartition(",")[2].strip() if told and self.server.is_behind and here.startswith("127.") else here
+
+    def is_here(self) -> bool:
+        """Whether a browser is on this machine, and no proxy stands between."""
+        return not self.headers.get_all("X-Forwarded-For") and self.client_address[0] == self.connection.getsockname()[0]
 
     # ---- what is served
 
@@ -436,6 +442,15 @@ class Handler(BaseHTTPRequestHandler):
         except CannotFollow as fault:
             raise Fault(422, str(fault)) from None
         self.send_json(200, {"ok": True, "address": address})
+
+    def let_clear(self) -> None:
+        """The window of who keeps the board says whether those of others may clear pages."""
+        body, guests = self.body(), self.server.guests
+        if not (guests and self.guest and self.guest.keeps):
+            raise Fault(403, "only the window of who keeps the board decides that")
+        if list(body) != ["others"] or not isinstance(body["others"], bool):
+            raise Fault(400, "fields")
+        self.send_json(200, dict(guests.let_clear(body["others"]), ok=True))
 
     def renumber(self) -> None:
         body, people = self.body(), self.member.people

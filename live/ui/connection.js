@@ -190,6 +190,12 @@ export class HttpMember {
     return this.ask('next', { session });
   }
 
+  /** Whether windows of others may clear pages.
+   * @param {boolean} others */
+  clearing(others) {
+    return this.ask('clearing', { others });
+  }
+
   /** @param {string} page @returns {Promise<import('./types.js').Board | null>} */
   read(page) {
     return this.get(`board?page=${page}`, (answer) => answer.json());

@@ -1,8 +1,8 @@
-/** Which items are where: those that can leave a mark in a box, that are under a hand, and that lie in a rectangle. */
+/** Which items are where: those that can leave a mark in a box, and that are under a hand. */
 import { isClosed, isStroke } from './ink.js';
 import { off } from './inkcurves.js';
 import { isLetters } from './inkfonts.js';
-import { boxOf } from './inkpaint.js';
+import { BROAD, boxOf, overlap } from './inkpaint.js';
 import { WIDTHS } from './inksigns.js';
 
 /** @typedef {import('./ink.js').Point} Point */
@@ -11,12 +11,6 @@ import { WIDTHS } from './inksigns.js';
 
 /** Within this many units of its border a frame leaves a mark, and of its line a line, with its head. */
 const BORDER = 200, BESIDE = 400;
-
-/** Items that lie up to this many units beyond a rectangle are within it still. */
-const BEYOND = 40;
-
-/** @type {(a: Box, b: Box) => boolean} */
-const overlap = (a, b) => a.x0 <= b.x1 && a.x1 >= b.x0 && a.y0 <= b.y1 && a.y1 >= b.y0;
 
 /** Whether an item can leave a mark in a box: what is only about it does not.
  * @type {(item: Item, box: Box) => boolean} */
@@ -31,27 +25,12 @@ export function meets(item, box) {
   return true;
 }
 
-/** The items that can leave a mark in a box, in the order of painting.
- * @type {(items: Item[], box: Box) => Item[]} */
-export const itemsIn = (items, box) => items.filter((item) => meets(item, box));
-
-/** The items that lie in a rectangle as a whole.
- * @type {(items: Item[], from: Point, to: Point) => Item[]} */
-export function itemsInside(items, from, to) {
-  const [left, right] = [Math.min(from.x, to.x) - BEYOND, Math.max(from.x, to.x) + BEYOND];
-  const [top, bottom] = [Math.min(from.y, to.y) - BEYOND, Math.max(from.y, to.y) + BEYOND];
-  return items.filter((item) => {
-    const { x0, y0, x1, y1 } = boxOf(item);
-    return x0 >= left && y0 >= top && x1 <= right && y1 <= bottom;
-  });
-}
-
 /** The parts of an item that a point is near to, by the places of their first points: of a stroke from lift to lift, else the whole.
  * @type {(item: Item, at: Point, near: number) => number[]} */
 export function partsAt(item, at, near) {
   const { kind, width } = item, box = boxOf(item);
   if (at.x < box.x0 - near || at.x > box.x1 + near || at.y < box.y0 - near || at.y > box.y1 + near) return [];
-  const by = near + WIDTHS[width] * (kind === 'h' ? 1.2 : 0.5);
+  const by = near + WIDTHS[width] * (kind === 'h' ? BROAD : 1) * 0.5;
   if (isLetters(item) || kind === 'n') return [0];
   if (isClosed(kind) || kind === 'frame') return isInShape(item, at, by) ? [0] : [];
   return strokesAt(item, at, by);
@@ -81,6 +60,6 @@ function strokesAt({ kind, points }, at, by) {
   return [...found];
 }
 
-/** The item on top at a point.
+/** The item on top of a few at a point.
  * @type {(items: Item[], at: Point, near: number) => Item | undefined} */
 export const itemAt = (items, at, near) => items.findLast((item) => partsAt(item, at, near).length > 0);

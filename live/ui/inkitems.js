@@ -94,7 +94,7 @@ function addPoints(points, [first, ...others]) {
 
 /** Which of two items is painted first: by time, source and number, as a host shows drawings.
  * @type {(a: Item, b: Item) => number} */
-function byPainting({ drawings: [a] }, { drawings: [b] }) {
+export function byPainting({ drawings: [a] }, { drawings: [b] }) {
   // times are decimal digits, of up to 64 bits
   if (a.time !== b.time) return a.time.length - b.time.length || (a.time < b.time ? -1 : 1);
   return a.source - b.source || a.seq - b.seq;

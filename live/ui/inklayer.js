@@ -1,5 +1,6 @@
 /** The page as ink: its items, and pictures of the parts in view. Both are made a few milliseconds a frame, so no page, however full, holds a
  * frame up. */
+import { Grid } from './grid.js';
 import { meets } from './inkfind.js';
 import { Items } from './inkitems.js';
 import { InkPaint } from './inkpaint.js';
@@ -38,6 +39,7 @@ export class InkLayer {
     this.painter = painter;
     this.paints = new InkPaint(painter);
     this.kept = new Items();
+    this.grid = new Grid();
     /** Those that have letters, for who listens.
      * @type {Set<Item>} */
     this.lettered = new Set();
@@ -64,12 +66,19 @@ export class InkLayer {
     return this.kept.list;
   }
 
+  /** The items that can leave a mark in a box, in the order of painting.
+   * @param {Box} box */
+  itemsIn(box) {
+    return this.grid.within(box, this.items).filter((item) => meets(item, box));
+  }
+
   /** What became of the page. A small change is taken at once; of others as much as a frame has time for, and more in the next ones.
    * @param {Taken} taken */
   take({ isTurned, gone, added }) {
     if (isTurned) {
       [this.waiting, this.before] = [[], 0];
       this.kept = new Items();
+      this.grid = new Grid();
       this.lettered.clear();
       this.pictures.clear();
     }
@@ -94,6 +103,7 @@ export class InkLayer {
    * @param {{ gone: Item[], come: Item[] }} change */
   show({ gone, come }) {
     const { items, lettered } = this, areLast = gone.length === 0 && come.every((item, i) => items[items.length - come.length + i] === item);
+    this.grid.change(gone, come);
     gone.forEach((item) => lettered.delete(item));
     come.forEach((item) => item.letters && lettered.add(item));
     for (const picture of this.pictures.values()) {
@@ -174,7 +184,7 @@ export class InkLayer {
   paintSome(picture, end) {
     const { wide, x, y } = picture, ratio = devicePixelRatio, scale = (wide / CELL_WIDE) * ratio;
     if (!picture.todo) {
-      picture.todo = this.items.filter((item) => meets(item, picture.box));
+      picture.todo = this.itemsIn(picture.box);
       picture.canvas = null;
     }
     const { todo } = picture, canvas = picture.canvas ?? Object.assign(document.createElement('canvas'), { width: TILE * ratio, height: TILE * ratio });

@@ -3,12 +3,12 @@ import { OFFERED } from './colours.js';
 import { $ } from './dom.js';
 
 /** The tools by their keys: as ink, and by characters. */
-const OF_INK = { v: 'select', s: 'select', h: 'hand', p: 'pen', m: 'marker', e: 'erase', d: 'erase', l: 'line', a: 'arrow', r: 'frame', f: 'frame', o: 'ellipse', n: 'note', t: 'text' };
+const OF_INK = { v: 'select', s: 'select', h: 'hand', p: 'pen', m: 'marker', e: 'erase', d: 'erase', l: 'line', a: 'arrow', r: 'frame', f: 'frame', o: 'ellipse', i: 'diamond', n: 'note', t: 'text' };
 const OF_CELLS = { v: 'select', s: 'select', p: 'pen', e: 'erase', d: 'erase', l: 'line', a: 'arrow', f: 'frame', b: 'block', t: 'text', r: 'restore' };
 
 /** @param {import('./whiteboard.js').Whiteboard} board @returns {Record<string, () => void>} */
 export function keysOf(board) {
-  const { hand, view, session, painter, sight, style, files, owner } = board, all = [...new Set([...Object.keys(OF_INK), ...Object.keys(OF_CELLS)])];
+  const { hand, view, session, painter, sight, style, overview, owner } = board, all = [...new Set([...Object.keys(OF_INK), ...Object.keys(OF_CELLS)])];
   /** The point that stays where it is when the page becomes larger: what is pointed at, or the middle. */
   const focus = () => {
     const cell = hand.at();
@@ -26,7 +26,7 @@ export function keysOf(board) {
   return {
     ...Object.fromEntries(all.map((key) => [key, () => choose(key)])),
     ...Object.fromEntries(OFFERED.map((colour, i) => [String(i + 1), () => style.setColour(colour)])),
-    g: () => (painter.isInk ? files.showAll() : board.openPalette()), '[': () => session.turn(-1), ']': () => session.turn(1),
+    g: () => (painter.isInk ? overview.show() : board.openPalette()), '[': () => session.turn(-1), ']': () => session.turn(1),
     '?': () => $('keys').showModal(), '+': larger, '=': larger, '-': smaller, 0: () => sight.all(), Home: () => sight.all(),
     c: () => sight.setLook(!painter.isInk),
   };

@@ -1,14 +1,13 @@
-/** The parts of the panel: who is there, what was erased, how the network is, and how it is worsened. */
+/** The parts of the panel: who is there, how the network is, and how it is worsened. */
 import { $, make } from './dom.js';
-import { inkOf, isStroke } from './ink.js';
 import { renew, write } from './keyed.js';
 import { initialsOf } from './notes.js';
 
 /** @typedef {import('./whiteboard.js').Whiteboard} Whiteboard */
 /** @typedef {import('./types.js').Other} Other */
 
-/** Members, erased drawings and warnings that are listed. */
-const MOST_MEMBERS = 64, MOST_HIDDEN = 50, MOST_WARNINGS = 3;
+/** Members and warnings that are listed. */
+const MOST_MEMBERS = 64, MOST_WARNINGS = 3;
 
 /** @param {number} seconds */
 export function ago(seconds) {
@@ -85,32 +84,6 @@ export function showHealth({ session }) {
   session.on('link', (link) => link === 'open' || setHealth('lost', link === 'gone' ? 'wb-live has another address now' : 'wb-live does not answer'));
   session.on('hello', ({ twin }) => { $('twin').hidden = !twin; });
   $('renumber').addEventListener('click', () => session.member.renumber?.());
-}
-
-/** What a drawing is, in a word or by its letters.
- * @param {import('./types.js').Drawing} drawing */
-export function kindOf(drawing) {
-  const ink = inkOf(drawing), letters = ink ? ink.letters : drawing.op === 'text' ? drawing.text : '';
-  if (letters) return `“${letters.slice(0, 16)}”`;
-  if (!ink) return drawing.op;
-  return ink.kind === 'h' ? 'highlighter' : isStroke(ink.kind) ? 'writing' : 'shape';
-}
-
-/** What was erased, and can be restored.
- * @param {Whiteboard} board */
-export function showHidden({ session }) {
-  /** @param {import('./types.js').Drawing} drawing */
-  const row = (drawing) => {
-    const line = make('li'), button = make('button', 'Restore');
-    button.addEventListener('click', () => session.restore(drawing));
-    line.append(make('span', `${kindOf(drawing)}, ${session.who(drawing.source)}`), button);
-    line.title = `number ${drawing.seq} of member ${drawing.source}`;
-    return line;
-  };
-  session.on('board', ({ hidden }) => {
-    $('hidden').replaceChildren(...hidden.slice(-MOST_HIDDEN).reverse().map(row));
-    $('hiding').hidden = !hidden.length;
-  });
 }
 
 /** Losses on purpose.

@@ -1,4 +1,5 @@
 /** The pen and the highlighter: a stroke is sent while it is drawn, text by text, and strokes near to one another share a text. */
+import { off } from './inkcurves.js';
 import { fitted } from './inkfitting.js';
 import { CELL_WIDE } from './inksigns.js';
 import { placed, writeStroke } from './inkwriting.js';
@@ -16,6 +17,9 @@ const RESTS = 700, NEAR_CELLS = 14;
 
 /** A hand's way is kept as near as this many points of the screen; points of it that are nearer to one another are one. */
 const NEAR = 0.55, APART = 0.6;
+
+/** A stroke that is about straight becomes so if the pen rests for this many milliseconds at its end; how far it may be off, as a part of its length. */
+const HELD = 600, ABOUT_STRAIGHT = 0.12;
 
 /** After this many more points, whether a text is full is looked at. */
 const LOOKED_AT = 6;
@@ -36,6 +40,9 @@ class Strokes {
     /** Whether a text of them is sent: what follows goes on with it. */
     this.isMore = false;
     this.isDown = false;
+    /** Whether nothing of the stroke that is drawn is sent, and whether it is held straight. */
+    this.isWhole = true;
+    this.isStraight = false;
     this.timer = 0;
     /** What is not sent, as it was made last; null where it is another since.
      * @type {{ knots: Knots, texts: Written[] } | null} */
@@ -46,19 +53,31 @@ class Strokes {
    * @param {Point} at */
   begin(at) {
     clearTimeout(this.timer);
-    Object.assign(this, { way: [at], isDown: true, made: null });
+    Object.assign(this, { way: [at], isDown: true, isWhole: true, isStraight: false, made: null });
   }
 
   /** Goes on to points that are not too near to one another; how many more the way has.
    * @param {Point[]} points */
   add(points) {
     const before = this.way.length;
+    if (this.isStraight && points.length) {
+      [this.way, this.made] = [[this.way[0], points[points.length - 1]], null];
+      return 0;
+    }
     for (const point of points) {
       const last = this.way[this.way.length - 1];
       if (Math.hypot(point.x - last.x, point.y - last.y) > APART * this.point) this.way.push(point);
     }
     this.made = null;
     return this.way.length - before;
+  }
+
+  /** Makes the stroke that is drawn straight, if it is about so and nothing of it is sent; whether it was. */
+  straighten() {
+    const { way } = this, first = way[0], last = way[way.length - 1], far = way.length > 2 ? Math.hypot(last.x - first.x, last.y - first.y) : 0;
+    const isAbout = this.isDown && this.isWhole && far > 0 && way.every((point) => off(point, first, last) < far * ABOUT_STRAIGHT);
+    if (isAbout) Object.assign(this, { way: [first, last], isStraight: true, made: null });
+    return isAbout;
   }
 
   /** Lifts the pen, and keeps the stroke if it is to be.
@@ -96,7 +115,7 @@ class Strokes {
    * @param {Knots} knots @param {Written} last */
   after(knots, { upTo, part, end }) {
     const done = this.knots.length, placeOf = (/** @type {number} */ at) => knots[at]?.i ?? 0;
-    Object.assign(this, { isMore: true, made: null });
+    Object.assign(this, { isMore: true, isWhole: upTo < done, made: null });
     if (upTo < done) this.knots = [end, ...this.knots.slice(upTo + 1)];
     else {
       this.way = [end, ...this.way.slice(Math.floor(placeOf(upTo) + part * (placeOf(upTo + 1) - placeOf(upTo))) + 1)];
@@ -112,6 +131,7 @@ export class Pen {
     /** @type {Strokes | null} */
     this.strokes = null;
     this.rests = RESTS;
+    this.hold = 0;
     this.unseen = 0;
     addEventListener('pagehide', () => this.flush());
     board.session.on('board', (_, { isTurned }) => isTurned && this.flush());
@@ -150,6 +170,8 @@ export class Pen {
   move(points) {
     const { strokes } = this;
     if (!strokes?.isDown) return;
+    clearTimeout(this.hold);
+    this.hold = /** @type {any} */ (setTimeout(() => strokes.straighten() && this.board.painter.soon(), HELD));
     this.unseen += strokes.add(points);
     if (this.unseen < LOOKED_AT) return;
     const { knots, texts } = strokes.open(), full = texts.slice(0, -1);
@@ -167,6 +189,7 @@ export class Pen {
   end() {
     const { strokes } = this;
     if (!strokes?.isDown) return;
+    clearTimeout(this.hold);
     strokes.lift(true);
     strokes.timer = setTimeout(() => this.flush(), this.rests);
   }

@@ -2,6 +2,12 @@
 
 /** @typedef {import('./view.js').View} View */
 /** @typedef {import('./hand.js').Hand} Hand */
+/** What the other end of a pen has for its button, and the button at its side. */
+const ERASER = 5, SIDE = 2;
+
+/** Points of the screen within which a mouse or a pen takes what is drawn, and a finger. */
+const REACH = 7, FINGER = 16;
+
 /** The middle of the fingers, and how far two of them are apart.
  * @typedef {{ x: number, y: number, spread: number }} Middle */
 
@@ -25,6 +31,8 @@ export class Pointing {
     sheet.addEventListener('pointermove', (event) => this.move(event));
     sheet.addEventListener('pointerup', (event) => this.up(event));
     sheet.addEventListener('pointercancel', (event) => this.cancel(event));
+    // the button of a pen opens no menu
+    sheet.addEventListener('contextmenu', (event) => /** @type {PointerEvent} */ (event).pointerType === 'mouse' || event.preventDefault());
     sheet.addEventListener('pointerleave', () => {
       [hand.pointer, hand.point] = [null, null];
       hand.changed();
@@ -76,9 +84,12 @@ export class Pointing {
   down(event) {
     const { view, hand } = this, { sheet } = view;
     const isTouch = event.pointerType === 'touch';
-    if (event.target instanceof HTMLTextAreaElement || event.button > 1) return;
+    const isPen = event.pointerType === 'pen', isErasing = isPen && event.button === ERASER;
+    if (event.target instanceof HTMLTextAreaElement || (event.button > 1 && !isErasing && !(isPen && event.button === SIDE))) return;
     event.preventDefault();
-    this.hasStylus ||= event.pointerType === 'pen';
+    this.hasStylus ||= isPen;
+    view.reach = isTouch ? FINGER : REACH;
+    if (isPen && event.button === SIDE && hand.tool !== 'select') hand.choose('select');
     if (isTouch && this.isStylusDown()) return;
     sheet.focus(/** @type {FocusOptions} */ ({ preventScroll: true, focusVisible: false }));
     sheet.setPointerCapture(event.pointerId);
@@ -87,9 +98,9 @@ export class Pointing {
     hand.pointer = view.cellAt(event);
     hand.point = view.pointAt(event);
     // a pen that is pressed as hard everywhere tells nothing of it
-    this.isPressed = event.pointerType === 'pen' && event.pressure > 0 && event.pressure !== 0.5;
+    this.isPressed = isPen && event.pressure > 0 && event.pressure !== 0.5;
     if (this.fingers.size > 1 || this.isSpaced || hand.tool === 'hand' || event.button === 1 || (isTouch && this.hasStylus)) this.startPan();
-    else hand.begin(hand.pointer, this.pointsOf(event)[0], { isShifted: event.shiftKey, isPressed: this.isPressed });
+    else hand.begin(hand.pointer, this.pointsOf(event)[0], { isShifted: event.shiftKey, isPressed: this.isPressed, tool: isErasing ? 'erase' : undefined });
   }
 
   /** @param {PointerEvent} event */

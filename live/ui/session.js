@@ -1,6 +1,6 @@
 /** What the member told last, and what it is asked to do. The page holds no other truth. */
 import { nameOf, spell } from './cells.js';
-import { NOTES } from './notes.js';
+import { calledBy, leavesOf } from './leaves.js';
 
 /** @typedef {import('./types.js').Member} Member */
 /** @typedef {import('./types.js').Shape} Shape */
@@ -78,11 +78,16 @@ export class Session {
      * @type {import('./types.js').Link} */
     this.link = 'lost';
     this.unsent = 0;
-    /** The names of members, and the titles of pages.
+    /** The names of members, the titles of pages, and how people ordered them.
      * @type {Map<number, string>} */
     this.called = new Map();
     /** @type {Map<string, string>} */
     this.titles = new Map();
+    /** @type {import('./leaves.js').Ordered} */
+    this.ordered = { places: [], gone: new Map() };
+    /** The pages that are listed, until one of these is another.
+     * @type {{ of: any[], leaves: import('./types.js').Leaf[] }} */
+    this.listed = { of: [], leaves: [] };
     /** @type {Map<string, ((news: any, taken?: any) => void)[]>} */
     this.listeners = new Map();
   }
@@ -178,7 +183,7 @@ export class Session {
   /** What a page is called: by its title, else by its place among the pages.
    * @param {string} page */
   titleOf(page) {
-    return this.titles.get(page) || `Page ${Math.max(0, this.leaves().findIndex((leaf) => leaf.page === page)) + 1}`;
+    return this.titles.get(page) || calledBy(this.leaves(), page);
   }
 
   /** Whose drawing it is, in words.
@@ -236,9 +241,16 @@ export class Session {
     this.emit('fault', `The page was not turned: ${answer.fault}`);
   }
 
-  /** The pages that are turned through: all but the reserved one. */
+  /** The pages that are turned through. */
   leaves() {
-    return this.pages.filter(({ page }) => page !== NOTES);
+    const of = [this.pages, this.ordered, this.board.page];
+    if (of.some((each, i) => each !== this.listed.of[i])) this.listed = { of, leaves: leavesOf(this.pages, this.ordered, this.board.page) };
+    return this.listed.leaves;
+  }
+
+  /** Whether this window may clear pages: the one of who keeps the board decides that for the others. */
+  get mayClear() {
+    return this.hello.clears !== false;
   }
 
   /** Turns some pages on, from the page that was asked for last.

@@ -1,11 +1,11 @@
-/** What is in sight: everything at once, the way back to the drawings, the look of the page, light or dark, and the page on paper. */
+/** What is in sight: everything at once, the way back to the drawings, the look of the page, and light or dark. */
 import { $ } from './dom.js';
-import { boxAboutAll, boxOf } from './inkpaint.js';
+import { boxAboutAll } from './inkpaint.js';
 import { FIRST_ROW } from './inksigns.js';
 import { USUAL } from './view.js';
 
 /** Tools that one of the looks has not. */
-const OF_INK = ['ellipse', 'note', 'marker', 'hand'], OF_CELLS = ['block'];
+const OF_INK = ['ellipse', 'diamond', 'note', 'marker', 'hand'], OF_CELLS = ['block'];
 
 /** Points that stay free about everything, and beside what floats over the sheet. */
 const FREE = { across: 28, down: 20, beside: 16 };
@@ -58,13 +58,9 @@ export class Sight {
 
   /** Says where the drawings are if none is in view. */
   showAway() {
-    const { view, ink, painter } = this.board, { x0, y0, x1, y1 } = view.boxInUnits();
-    const isSeen = () => ink.items.some((item) => {
-      const box = boxOf(item);
-      return box.x0 < x1 && box.x1 > x0 && box.y0 < y1 && box.y1 > y0;
-    });
+    const { view, ink, painter } = this.board;
     const isPacked = () => view.top + view.rows < FIRST_ROW && ink.items.some(({ kind }) => kind.length === 1);
-    $('away').hidden = painter.isInk ? !ink.items.length || isSeen() : !isPacked();
+    $('away').hidden = painter.isInk ? !ink.items.length || ink.grid.hasAny(view.boxInUnits()) : !isPacked();
     $('away').textContent = painter.isInk ? 'Back to the drawings' : `Ink stands packed from row ${FIRST_ROW} on: go there`;
   }
 
@@ -83,7 +79,7 @@ export class Sight {
       view.home();
       return;
     }
-    for (const island of document.querySelectorAll('.island')) {
+    for (const island of document.querySelectorAll('.island:not(#chosen)')) {
       const { top, bottom, height } = island.getBoundingClientRect();
       if (height && top + bottom < innerHeight) edge.top = Math.max(edge.top, bottom + FREE.beside);
       else if (height) edge.bottom = Math.max(edge.bottom, innerHeight - top + FREE.beside);
@@ -108,16 +104,5 @@ export class Sight {
   setTheme(theme) {
     this.board.painter.setTheme(theme);
     this.board.changeColours();
-  }
-
-  /** As ink the canvas is printed, with everything in it; by characters the text, as wide as the paper. */
-  fitPrint() {
-    const { painter, session } = this.board;
-    if (painter.isInk) {
-      this.fitAll();
-      painter.paint(performance.now());
-    }
-    const longest = Math.max(40, ...session.board.rows.map((row) => row.length));
-    $('text').style.fontSize = `${Math.min(12, 820 / longest)}pt`;
   }
 }

@@ -4,17 +4,26 @@ import { $, make, say } from './dom.js';
 import { OWN } from './inksigns.js';
 
 /** What is drawn with: a colour and a width; of the highlighter and of notes a colour, and of the highlighter a width; of letters the size and
- * the font; whether lines are dashed, and how shapes are filled.
- * @typedef {{ colour: number, width: number, bright: number, broad: number, size: number, font: number, isDashed: boolean, fill: number }} Look */
+ * the font; whether lines are dashed, and arrows have two heads; how shapes are filled; and whether the eraser takes what it touches alone.
+ * @typedef {{ colour: number, width: number, bright: number, broad: number, size: number, font: number, isDashed: boolean, hasTwo: boolean, fill: number,
+ *   cuts: boolean }} Look */
 
 /** Where the page keeps it. */
 const KEPT = 'wb-style';
 
 /** @type {Look} */
-const USUAL = { colour: 0, width: 2, bright: 3, broad: 6, size: 3, font: 0, isDashed: false, fill: 0 };
+const USUAL = { colour: 0, width: 2, bright: 3, broad: 6, size: 3, font: 0, isDashed: false, hasTwo: false, fill: 0, cuts: false };
 
 /** The widths that are offered, of strokes and of the highlighter, and points of their marks. */
 const WIDTHS = [[1, 'fine'], [2, 'normal'], [4, 'thick'], [6, 'very thick']], BROAD = [[5, 'fine'], [6, 'normal'], [7, 'thick'], [8, 'very thick']], MARKS = [5, 8, 13, 19];
+
+/** What can be chosen for each tool. */
+const LINES = ['colours', 'widths', 'looks'], /** @type {Record<string, string[]>} */ ROWS = { pen: ['colours', 'widths'], marker: ['colours', 'widths'],
+  line: LINES, arrow: LINES, frame: LINES, ellipse: LINES, diamond: LINES, note: ['colours'], text: ['colours', 'fonts'], erase: ['looks'] };
+
+/** What can be switched for each tool. */
+const SHAPES = ['dashed', 'filled', 'full'], /** @type {Record<string, string[]>} */ LOOKS = { line: ['dashed'], arrow: ['dashed', 'heads at both ends'], frame: SHAPES,
+  ellipse: SHAPES, diamond: SHAPES, erase: ['only what it touches'] };
 
 /** The sizes and the fonts of letters. */
 const SIZES = [[1, 'S', 'small'], [3, 'M', 'middle'], [5, 'L', 'large'], [7, 'XL', 'very large']], FONTS = [[0, 'Aa', 'plain'], [2, 'x²', 'formula'], [1, '{}', 'code']];
@@ -24,15 +33,20 @@ export class Style {
   constructor(board) {
     this.board = board;
     /** @type {Look} */
+    $('style-open').addEventListener('click', () => this.open(!$('style').classList.contains('open')));
+    $('sheet').addEventListener('pointerdown', () => this.open(false));
     this.look = { ...USUAL, ...JSON.parse(localStorage.getItem(KEPT) ?? '{}') };
   }
 
-  /** @param {Partial<Look>} change */
+  /** Chooses something for the tool in hand; where ink is selected, that becomes so.
+   * @param {Partial<Look>} change */
   set(change) {
+    if (this.board.changing.isOn) return this.board.changing.restyle(change);
     this.board.pen.flush();
     Object.assign(this.look, change);
     localStorage.setItem(KEPT, JSON.stringify(this.look));
     this.show();
+    return undefined;
   }
 
   /** Chooses a colour for the tool in hand: of the highlighter and of notes it is another.
@@ -56,9 +70,41 @@ export class Style {
     return BRIGHT[colour] ?? this.tintOf(colour);
   }
 
-  /** Shows what can be chosen for the tool in hand. */
+  /** The rows of what can be chosen for the tool in hand, or for what is selected, and how that looks.
+   * @returns {{ rows: string[], looks: string[], look: Look, isMarker: boolean }} */
+  offered() {
+    const { hand, changing } = this.board, { tool } = hand;
+    if (!changing.isOn) return { rows: ROWS[tool] ?? [], looks: LOOKS[tool] ?? [], look: this.look, isMarker: tool === 'marker' };
+    const items = hand.chosenItems(), [{ colour = 0, width = 0, flag = 0, kind = '' } = {}] = items, has = (/** @type {string} */ kinds) => items.some((item) => kinds.includes(item.kind) && item.kind.length === 1);
+    const look = { colour, bright: colour, width, broad: width, size: width, font: kind === 't' ? flag : 0, isDashed: Boolean(flag & 4), hasTwo: kind === 'l' && (flag & 3) === 3, fill: flag & 3, cuts: false };
+    const rows = [...has('svhlrodnt') ? ['colours'] : [], ...has('svhlrod') ? ['widths'] : [], ...has('t') ? ['fonts'] : [], ...has('lrod') ? ['looks'] : []];
+    const looks = ['dashed', ...has('rod') ? SHAPES.slice(1) : [], ...items.some((item) => item.kind === 'l' && item.flag & 1) ? ['heads at both ends'] : []];
+    return { rows, looks, look, isMarker: items.every((item) => item.kind === 'h') };
+  }
+
+  /** On a narrow window one button has the colour and the width, and opens the rows.
+   * @param {number} colour @param {any[][]} widths @param {number} width @param {boolean} isBright */
+  showButton(colour, widths, width, isBright) {
+    const button = $('style-open'), at = Math.max(0, widths.findIndex(([each]) => each === width));
+    button.style.setProperty('--c', isBright ? BRIGHT[colour] : this.tintOf(colour));
+    button.style.setProperty('--w', `${MARKS[at] + 7}px`);
+    button.setAttribute('aria-label', `Colour and width: ${COLOURS[colour]}, ${widths[at][1]}`);
+  }
+
+  /** Opens or closes the rows on a narrow window.
+   * @param {boolean} is */
+  open(is) {
+    $('style').classList.toggle('open', is);
+    $('style-open').setAttribute('aria-expanded', String(is));
+  }
+
+  /** Shows what can be chosen. */
   show() {
-    const { look } = this, bar = $('style'), isBright = this.isBright(), isMarker = this.board.hand.tool === 'marker';
+    const { rows, looks, look, isMarker } = this.offered(), bar = $('style'), isBright = this.isBright();
+    bar.hidden = !rows.length && this.board.painter.isInk;
+    this.showButton(isBright ? look.bright : look.colour, isMarker ? BROAD : WIDTHS, isMarker ? look.broad : look.width, isBright);
+    for (const row of ['colours', 'widths', 'fonts', 'looks']) bar.querySelector(`.${row}`).hidden = !rows.includes(row);
+    bar.querySelector('.bar').hidden = rows.length < 2;
     /** @param {string} row @param {any[]} buttons */
     const fill = (row, buttons) => refill(bar.querySelector(row), buttons);
     fill('.colours', OFFERED.map((colour) => {
@@ -73,8 +119,13 @@ export class Style {
     }));
     fill('.fonts', [...SIZES.map(([size, text, name]) => radio(String(name), look.size === size, () => this.set({ size: Number(size) }), text)),
       ...FONTS.map(([font, text, name]) => radio(String(name), look.font === font, () => this.set({ font: Number(font) }), text))]);
-    fill('.looks', [toggle('dashed', '┄', look.isDashed, () => this.set({ isDashed: !look.isDashed })),
-      toggle('filled', '▨', look.fill > 0, () => this.set({ fill: look.fill ? 0 : 1 }))]);
+    /** @type {Record<string, () => any>} */
+    const toggles = { dashed: () => toggle('dashed', '┄', look.isDashed, () => this.set({ isDashed: !look.isDashed })),
+      filled: () => toggle('filled', '▨', look.fill === 1, () => this.set({ fill: look.fill === 1 ? 0 : 1 })),
+      full: () => toggle('full', '■', look.fill === 2, () => this.set({ fill: look.fill === 2 ? 0 : 2 })),
+      'heads at both ends': () => toggle('heads at both ends', '↔', look.hasTwo, () => this.set({ hasTwo: !look.hasTwo })),
+      'only what it touches': () => toggle('only what it touches', '⌿', look.cuts, () => this.set({ cuts: !look.cuts })) };
+    fill('.looks', looks.map((name) => toggles[name]()));
   }
 }
 

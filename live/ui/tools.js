@@ -7,9 +7,10 @@ import { arrow, between, filled, stroke } from './shapes.js';
 /** @typedef {import('./types.js').Drawing} Drawing */
 /** @typedef {import('./hand.js').Hand} Hand */
 /** What is begun: its two ends and the way between them, in cells, and the same way by points; how long it took; whether Shift is held;
- * for a selection whether it is moved, and by which corner it is made larger or smaller; for the eraser what it has touched.
+ * for a selection whether it is moved, and by which corner it is made larger or smaller; for the eraser what it has touched, and where it went.
  * @typedef {{ tool: string, from: Cell, to: Cell, path: Cell[], points: import('./ink.js').Point[], began: number, ended?: number, isMove: boolean,
- *   isShifted: boolean, grip?: import('./resizing.js').Grip, touched?: import('./eraser.js').Touched }} Gesture */
+ *   isShifted: boolean, grip?: import('./resizing.js').Grip, touched?: import('./eraser.js').Touched,
+ *   rubbed?: import('./eraser.js').Rub[] }} Gesture */
 
 /** With `isShort` a tool needs no second end. `shapes` are those that are drawn when it is let go, and `doomed` those that are deleted;
  * `finish` does both unless a tool has its own. `move` is given the points of the way before the gesture has them.

@@ -124,17 +124,18 @@ export class Typing {
     box.hidden = true;
     if (!typed || !sends) return;
     if ('letters' in typed) this.drawLetters(typed.letters, typed.page);
-    else hand.change(writing(plainOf(box.value).plain, typed.cell), [], typed.page);
+    else hand.change(writing(plainOf(box.value).plain, typed.cell), [], { page: typed.page });
   }
 
   /** Draws what was typed as ink, in the place of what stood there. An address alone becomes a link.
    * @param {Letters} letters @param {string} page */
   drawLetters({ kind, colour, width, flag, points, was, old }, page) {
     const text = this.box.value.trimEnd(), look = { colour, width }, [at] = points, link = kind === 't' ? writeLink(look, at, text.trim()) : null;
-    if (old.length && text === was.trimEnd()) return;
+    // a note without letters is none
+    if ((old.length ? text === was.trimEnd() : kind === 'n' && !text)) return;
     const shape = kind === 'n' ? [at, this.cornerOf({ kind, colour, width, flag, points, was, old })] : points;
     const texts = link ? [link] : isClosed(kind) ? writeShape(kind, look, flag, shape, text) : writeWords(look, flag, at, text);
-    this.board.hand.change(texts.map((each) => placed(each, 0)), old, page);
+    this.board.hand.change(texts.map((each) => placed(each, 0)), old, { page, isAgain: old.length > 0 });
   }
 
   /** Says at once which letters cells don't have. They stay until Enter shows what would be drawn in their place. */

@@ -39,6 +39,8 @@ export class View {
     this.rows = 1;
     this.width = sheet.clientWidth;
     this.height = sheet.clientHeight;
+    /** Points of the screen within which the hand takes what is drawn. */
+    this.reach = 7;
     /** When the cells last became larger or smaller. */
     this.sizedAt = -Infinity;
     /** @type {(() => void)[]} */

@@ -1,5 +1,6 @@
 /** The whiteboard over any member: puts the parts of the page together. */
 import { nameOf } from './cells.js';
+import { Changing } from './changing.js';
 import { showChat } from './chat.js';
 import { listenToClipboard } from './clipboard.js';
 import { $, say, tell } from './dom.js';
@@ -8,15 +9,18 @@ import { Files } from './files.js';
 import { FilmBar } from './film.js';
 import { Follow } from './follow.js';
 import { Hand, middleOf } from './hand.js';
-import { itemAt } from './inkfind.js';
+import { History, kindOf } from './history.js';
 import { reachOf } from './eraser.js';
+import { stayAbove } from './keyboard.js';
 import { keysOf } from './keymap.js';
 import { Keys } from './keys.js';
 import { Layout } from './layout.js';
-import { kindOf, showHealth, showHidden, showMembers, showWorse } from './members.js';
+import { Leafing } from './leafing.js';
+import { showHealth, showMembers, showWorse } from './members.js';
 import { NOTES, Notes } from './notes.js';
 import { Others } from './others.js';
 import { Owner } from './owner.js';
+import { Overview } from './overview.js';
 import { Painter } from './painter.js';
 import { showPages } from './pages.js';
 import { makePalette } from './palette.js';
@@ -55,11 +59,16 @@ export class Whiteboard {
     this.style = new Style(this);
     this.pen = new Pen(this);
     this.hand = new Hand(this);
+    this.changing = new Changing(this);
     this.painter.parts = this;
+    this.steps.itemOf = (drawing) => (this.painter.isInk && this.ink.kept.itemOf(drawing.source, drawing.seq)?.drawings) || [drawing];
     this.typing = new Typing(this);
     this.pointing = new Pointing(this.view, this.hand);
     this.traffic = new Traffic(this.session);
     this.files = new Files(this);
+    this.leafing = new Leafing(this);
+    this.overview = new Overview(this);
+    this.history = new History(this);
     this.others = new Others(this);
     this.owner = new Owner(this);
     this.film = new FilmBar(this.session, this.painter);
@@ -89,7 +98,7 @@ export class Whiteboard {
   describe(cell) {
     const { session, layout, ink } = this, place = `${cell.x}, ${cell.y}`;
     if (this.painter.isInk) {
-      const item = itemAt(ink.items, middleOf(cell), reachOf(this.view));
+      const item = ink.grid.itemAt(middleOf(cell), reachOf(this.view));
       return item ? `${place}   ${kindOf(item.drawings[0])} by ${session.who(item.source)}` : place;
     }
     const drawing = this.hand.tool === 'restore' ? layout.hiddenAt(cell) : layout.drawingAt(cell);
@@ -100,7 +109,7 @@ export class Whiteboard {
   under() {
     const { hand, ink, session } = this, cell = hand.at(), { gesture, point } = hand;
     if (this.painter.isInk) {
-      const item = point && !gesture ? itemAt(ink.items, point, reachOf(this.view)) : undefined;
+      const item = point && !gesture ? ink.grid.itemAt(point, reachOf(this.view)) : undefined;
       return item ? `${session.who(item.source)}, ${when(item.drawings[0].time)}` : '';
     }
     const size = gesture ? `   ${Math.abs(gesture.to.x - gesture.from.x) + 1} by ${Math.abs(gesture.to.y - gesture.from.y) + 1}` : '';
@@ -118,6 +127,9 @@ export class Whiteboard {
   takeHello(hello) {
     $('notice').textContent = `${hello.notice} You are member ${hello.me}; ${hello.mode}.`;
     showProof(hello.proof);
+    for (const id of ['clear', 'delete-page']) $(id).disabled = !this.session.mayClear;
+    $('clearing').hidden = hello.othersClear === undefined;
+    $('others-clear').checked = hello.othersClear !== false;
   }
 
   /** @param {import('./types.js').Board} board @param {Taken} taken */
@@ -174,7 +186,7 @@ export class Whiteboard {
   }
 
   undo() {
-    if (!this.pen.undo()) this.steps.undo();
+    if (!this.changing.drop() && !this.pen.undo()) this.steps.undo();
   }
 
   /** Erases all that the page shows, as one step. */
@@ -188,16 +200,17 @@ export class Whiteboard {
    * @param {MouseEvent} event */
   edit(event) {
     if (!this.painter.isInk || event.target instanceof HTMLTextAreaElement || !['select', 'text'].includes(this.hand.tool)) return;
-    const item = itemAt(this.ink.items, this.view.pointAt(event), reachOf(this.view));
+    const item = this.ink.grid.itemAt(this.view.pointAt(event), reachOf(this.view));
     if (item && ['t', 'n', 'r', 'o', 'd'].includes(item.kind)) this.typing.edit(item);
   }
 
   /** Has the buttons, the keys and the system's wishes heard. */
   listen() {
-    const keys = keysOf(this), undo = () => this.undo(), redo = () => this.steps.redo(), menu = ['clear', 'restore-tool', 'help', 'entitle'];
+    const keys = keysOf(this), undo = () => this.undo(), redo = () => this.steps.redo(), menu = ['clear', 'restore-tool', 'help', 'entitle', 'copy-page', 'delete-page'];
     /** @type {Record<string, () => void>} */
     const clicks = { glyph: this.openPalette, undo, redo, back: keys['['], forth: keys[']'], new: () => this.session.goToPage(null), help: keys['?'],
-      all: () => this.files.showAll(), file: () => $('files').showModal(), smaller: keys['-'], larger: keys['+'], clear: () => this.clear() };
+      all: () => this.overview.show(), file: () => $('files').showModal(), smaller: keys['-'], larger: keys['+'], clear: () => this.clear(),
+      'copy-page': () => this.leafing.copy(this.session.board.page), 'delete-page': () => this.leafing.remove(this.session.board.page) };
     menu.forEach((id) => $(id).addEventListener('click', () => $('files').close()));
     for (const [id, act] of Object.entries(clicks)) $(id).addEventListener('click', () => act());
     for (const button of document.querySelectorAll('[data-tool]')) {
@@ -208,10 +221,11 @@ export class Whiteboard {
       const is = /** @type {HTMLElement} */ (event.target).closest?.('[data-tool], .pages button, #style button, #foot button:not(#state)');
       if (event.detail && is && !document.querySelector('dialog[open]')) this.focusSheet();
     }, true);
+    $('others-clear').addEventListener('change', () => this.session.member.clearing?.($('others-clear').checked));
     this.view.sheet.addEventListener('dblclick', (event) => this.edit(event));
     listenToClipboard(this.hand, () => this.place());
+    stayAbove(this);
     new Keys(this.view, this.hand, this.pointing, { keys, undo, redo, describe: (cell) => this.describe(cell) });
-    addEventListener('beforeprint', () => this.sight.fitPrint());
     this.painter.night.addEventListener('change', () => this.changeColours());
     new ResizeObserver(() => { this.view.resize(); this.follow.goAfter(); }).observe($('sheet'));
   }
@@ -244,7 +258,7 @@ export class Whiteboard {
     session.on('notes', ({ colours }) => this.takeColours(colours));
     session.on('fault', tell);
     this.ink.changed = () => { this.sight.show(); this.showText(); };
-    for (const show of [showChat, showMembers, showHealth, showHidden, showWorse]) show(this);
+    for (const show of [showChat, showMembers, showHealth, showWorse]) show(this);
     showPages(session);
     this.listen();
     this.hand.choose('pen');

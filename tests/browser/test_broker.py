@@ -71,7 +71,7 @@ def draw_with_live(facts: Facts, live: Window, windows: list[Window]) -> None:
     facts.holds("browsers and wb-live show one canvas", agree(all_three, before + 3 * DRAWINGS), [(window.drawings(), window.health()) for window in all_three])
     print(f"{3 * DRAWINGS} drawings by two browsers that lose a third and wb-live: one canvas {time.monotonic() - began:.1f} s after the last")
     for one, other in ((windows[0], live), (live, windows[0])):
-        other.page.value("wb.session.on('presence', ({ others }) => { window.pointed = JSON.stringify(others.map(({ cell, begun }) => [cell, begun])); }); 0")
+        other.page.value("wb.session.on('presence', ({ others }) => { window.pointed = JSON.stringify(others.map(({ cell, begun }) => [cell, begun.filter((line) => !line.startsWith('view'))])); }); 0")
         told = one.page.value("wb.session.member.point(wb.session.board.page, [3, 4], ['line 0 0 4 4 *']).then(({ ok }) => ok)")
         facts("where one points is told, and what is begun", (told, other.page.wait("window.pointed === '[[[3,4],[\"line 0 0 4 4 *\"]]]'")), (True, True))
     live.page.close()

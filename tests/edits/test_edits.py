@@ -13,11 +13,11 @@ from pathlib import Path
 
 import pytest
 
-from .. import refusals
+from .. import clauses, refusals
 
 TOP = Path(__file__).resolve().parents[2]
 EDITS = sorted(TOP.glob("crates/*/must-fail/*.edit"))
-MOST = 169
+MOST = 171
 REFUSED = "refused, as it must be"
 
 
@@ -72,6 +72,14 @@ def test_edit_is_refused(edit: Path, request: pytest.FixtureRequest) -> None:
         return
     assert said[-1].startswith(REFUSED), said[-1]
     assert any(goal_of(edit) in goal for goal in re.findall(r"`([^`]*)(?:`|$)", said[-1])), f"not {goal_of(edit)} refuses it: {said[-1]}"
+
+
+def test_each_has_a_row_in_the_table() -> None:
+    """It says whether the clause of the edit refuses it and nothing does without that, or why not."""
+    rows, edits = clauses.table(), {refusals.name_of(it): it for it in EDITS}
+    assert sorted(rows) == sorted(edits), "tests/try-edits --without-its-clause FOLDER CRATE .. writes the table"
+    changed = [name for name, row in rows.items() if row != ("-", clauses.NOT_YET) and (row[0] != clauses.own_digest(edits[name]) or not row[1])]
+    assert changed == [], "these are other edits than were tried"
 
 
 def test_there_are_not_too_many() -> None:

@@ -20,7 +20,7 @@ from typing import Any
 NAMES = ("chromium", "chromium-browser", "google-chrome")
 
 # for how many seconds a test waits for what has to come, on a slow machine too
-PATIENCE = 120.0
+PATIENCE = 15.0
 
 # the bits of the protocol for keys that are held
 ALT, CONTROL, SHIFT = 1, 2, 8

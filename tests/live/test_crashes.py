@@ -105,6 +105,18 @@ def test_failing_disk(facts: Facts, tmp_path: Path) -> None:
     facts("the record has what was drawn, and what others drew", [line[0] for line in lines if line[0] != "tick"], ["board", "say", "draw", "say"])
 
 
+def test_failing_disk_of_others(facts: Facts) -> None:
+    """So it is for a member of a browser, whose record does not last: what it draws is kept elsewhere."""
+    held: List[Drawop] = []
+    board = board_of(Record(None), held)
+    draw(board, "line 0 0 4 0 +")
+    with mock.patch.object(board, "sync_kept", side_effect=NoRoom("no disk")):
+        facts("a drawing is refused", draw(board, "line 0 1 4 1 x"), "no disk")
+    facts("and is nowhere", (len(held), board.tell("next 1 1").lines, [line for line in board.record.acts() if "x" in line]), (1, ["next 2"], []))
+    facts("with a disk its number is taken", draw(board, "line 0 1 4 1 y"), [2])
+    end(board)
+
+
 def draw(board: Board, operation: str) -> Any:
     """The numbers of ours that are sent for it, or why none is."""
     try:

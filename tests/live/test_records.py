@@ -7,6 +7,8 @@ import resource
 import stat
 import subprocess
 import sys
+import threading
+import tracemalloc
 from pathlib import Path
 from typing import Any, Callable, Dict, List, Tuple
 
@@ -137,6 +139,49 @@ def check_malformed(facts: Facts, folder: Path) -> None:
         path = folder / ("board-%d.wb" % number)
         path.write_text(board + "\ntick 5\n")
         facts("no host can have %s" % board, refusal_of(path)[0], "%s: no host can have its board: %s" % (path, board))
+
+
+HEAD = b"# wb record 1\nboard 7 100 1 42\n"
+LINES = b"tick 5\nsay draw 7 1/1 1 1000 line 0 0 4 0 o\n"
+
+
+def check_torn(facts: Facts, folder: Path) -> None:
+    """What a crash leaves of a record is one: a part of its head, and zeros in the place of what was not written."""
+    path = folder / "torn.wb"
+    for size in range(len(HEAD)):
+        for zeros in (0, 300_000):
+            path.write_bytes(HEAD[:size] + bytes(zeros))
+            begun(path)
+            facts("a head of %d bytes and %d zeros is begun anew" % (size, zeros), path.read_bytes()[:20], HEAD[:20])
+    for zeros in (1, 5_000, 300_000):
+        for torn in (b"", b"say draw 7 1/1 2 20"):
+            path.write_bytes(HEAD + LINES + torn + bytes(zeros))
+            told = [str(act) for act in read_played(str(path))]
+            facts("%d zeros behind a record are shown as nothing" % zeros, told, (HEAD + LINES).decode().split("\n")[1:4])
+            record = Record(str(path))
+            record.add("tick 6")
+            record.close()
+            facts("and written over", path.read_bytes(), HEAD + LINES + b"tick 6\n")
+    path.write_bytes(HEAD + b"x" * 300_000)
+    for _ in range(2):
+        facts("what is no record is not locked by who refused it", refusal_of(path)[0], "%s is no record" % path)
+
+
+def check_read(facts: Facts, folder: Path) -> None:
+    """Of what is shown no line is read that is too long, and only a file is."""
+    path = folder / "long.wb"
+    path.write_bytes(HEAD + LINES + b"say draw 7 1/1 2 20 text 0 0 \"" + b"x" * 40_000_000 + b"\"\ntick 9\n")
+    tracemalloc.start()
+    facts("a line of 40 MB is refused", refusal_of(path)[1], "%s, line 5: it has over 131072 bytes" % path)
+    facts("and was not read", tracemalloc.get_traced_memory()[1] < 4_000_000, True)
+    tracemalloc.stop()
+    pipe = folder / "pipe.wb"
+    os.mkfifo(pipe)
+    told: List[str] = []
+    reader = threading.Thread(target=lambda: told.append(refusal_of(pipe)[1]), daemon=True)
+    reader.start()
+    reader.join(PATIENCE)
+    facts("nobody waits at a pipe", told, ["%s is no file" % pipe])
 
 
 def check_links(facts: Facts, folder: Path) -> None:
@@ -298,7 +343,7 @@ def check_state(facts: Facts, folder: Path) -> None:
     facts("records are nobody else's to read", [path.stat().st_mode & 0o77 for path in (folder / "state").rglob("*.wb")], [0, 0])
 
 
-PARTS = [check_files, check_versions, check_malformed, check_links, check_wish, check_folders, check_long, check_noise, check_full_disk, check_state]
+PARTS = [check_files, check_versions, check_malformed, check_torn, check_read, check_links, check_wish, check_folders, check_long, check_noise, check_full_disk, check_state]
 
 
 @pytest.mark.parametrize("part", PARTS)

@@ -1,6 +1,7 @@
 """The requests of a browser, and of what is none: by HTTP on 127.0.0.1."""
 from __future__ import annotations
 
+import gzip
 import http.client
 import json
 import socket
@@ -61,6 +62,32 @@ def check_files(facts: Facts, member: Process) -> None:
     for path in ("/page/", "/page/start.js", script.replace("start.js", "index.html"), "/page/../web.py", "/page/%2e%2e/web.py", script.replace("start", "none")):
         facts("%s is not" % path, status_of(member, "GET", "/" + member.token + path, host), 404)
         facts("%s is not served without the key" % path, status_of(member, "GET", path, host), 403)
+
+
+def check_keeping(facts: Facts, member: Process) -> None:
+    """One connection has many requests, files are packed, and a browser keeps them."""
+    connection = http.client.HTTPConnection("127.0.0.1", member.port, timeout=PATIENCE)
+    script = "/%s/%s" % (member.token, script_of(member.get_page()[1]))
+    told: List[Tuple[int, Optional[str], Optional[str], int]] = []
+    used = set()
+    cases: List[Tuple[str, Dict[str, str]]] = [("/%s/" % member.token, {}), (script, {}), (script, {"Accept-Encoding": "gzip, br"})]
+    for path, headers in cases:
+        connection.request("GET", path, headers=headers)
+        answer = connection.getresponse()
+        body, tag = answer.read(), answer.getheader("ETag") or ""
+        told.append((answer.status, answer.getheader("Cache-Control"), answer.getheader("Content-Encoding"), len(gzip.decompress(body) if "Accept-Encoding" in headers else body)))
+        used.add(connection.sock and connection.sock.getsockname()[1])
+        connection.request("GET", path, headers={"If-None-Match": tag})
+        again = connection.getresponse()
+        facts("the same again is not sent", (again.status, again.read()), (304, b""))
+    facts("all by one connection", len(used), 1)
+    facts("who asks again hears whether it is the same", told[0][:3], (200, "no-cache", None))
+    facts("a script is kept for good", told[1][:3], (200, "private, max-age=31536000, immutable", None))
+    facts("and packed for who reads that", told[2], (*told[1][:2], "gzip", told[1][3]))
+    connection.request("POST", "/%s/draw" % member.token, b"{}", {"X-Wb-Token": "0" * 32})
+    refused = connection.getresponse()
+    facts("what is refused before it is read ends the connection", (refused.status, refused.getheader("Connection"), refused.read()[:11]), (403, "close", b'{"ok": false'[:11]))
+    connection.close()
 
 
 def check_strangers(facts: Facts, member: Process) -> None:
@@ -197,6 +224,6 @@ def test_beginning(facts: Facts, member: Process) -> None:
     facts("the states come in order", list(member.states)[:5] if member.wait_for(lambda s: len(s) >= 5) else [], ["hello", "board", "pages", "members", "health"])
 
 
-@pytest.mark.parametrize("part", [check_page, check_files, check_strangers, check_bodies, check_pages, check_crowds])
+@pytest.mark.parametrize("part", [check_page, check_files, check_keeping, check_strangers, check_bodies, check_pages, check_crowds])
 def test_request(facts: Facts, member: Process, part: Callable[[Facts, Process], None]) -> None:
     part(facts, member)

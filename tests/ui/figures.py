@@ -128,8 +128,8 @@ def tell_latency(one: Sheet, other: Sheet) -> None:
     one.keys("p")
     for turn in range(MORE_ROUNDS):
         way = at(one, *wave(60, 200 + 40 * turn, 300, 40))
-        other.page.until("!wb.others.heard.some(({ pointed }) => pointed.begun.length)")
-        other.page.value(f"{WATCH}(() => wb.others.heard.some(({{ pointed }}) => pointed.begun.length) && !wb.painter.isPlanned)")
+        other.page.until("!wb.others.heard.some(({ beside }) => beside.shapes.length)")
+        other.page.value(f"{WATCH}(() => wb.others.heard.some(({{ beside }}) => beside.shapes.length) && !wb.painter.isPlanned)")
         time.sleep(0.3)
         one.page.value("window.times = {}; 0")
         one.page.press(*way[0])

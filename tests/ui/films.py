@@ -48,7 +48,7 @@ def check_presence(tally: Tally, one: Sheet, other: Sheet) -> None:
     else:
         one.page.press(*one.point(10, 5))
         one.page.mouse("mouseMoved", *one.point(20, 9))
-    seen = f"wb.others.heard.some(({{ pointed }}) => pointed.member === {number} && pointed.cell[0] === 20 && pointed.begun[0] === 'frame 10 5 20 9 #')"
+    seen = f"wb.others.heard.some(({{ pointed, beside }}) => pointed.member === {number} && pointed.cell[0] === 20 && JSON.stringify(beside.shapes) === JSON.stringify([{{ op: 'frame', x0: 10, y0: 5, x1: 20, y1: 9, glyph: '#' }}]))"
     tally.check("others see what is begun", other.page.wait(seen), str(other.page.value("JSON.stringify(wb.others.heard)")))
     tally.check("it is painted", other.is_inked(15, 5))
     tally.check("it is nobody's drawing", not other.page.value("wb.session.board.drawops.length"))
@@ -57,7 +57,7 @@ def check_presence(tally: Tally, one: Sheet, other: Sheet) -> None:
         one.page.touch("touchEnd")
     else:
         one.page.mouse("mouseReleased", *one.point(20, 9))
-    tally.check("what is dropped is seen no more", other.page.wait("wb.others.heard.every(({ pointed }) => !pointed.begun.length)"))
+    tally.check("what is dropped is seen no more", other.page.wait("wb.others.heard.every(({ beside }) => !beside.shapes.length)"))
     one.page.value("document.getElementById('pointing').click()")
     tally.check("who does not want to is not seen", other.page.wait("!wb.others.heard.length"))
     one.page.value("document.getElementById('pointing').click()")

@@ -102,7 +102,7 @@ def test_pen(tally: Tally, one: Sheet, other: Sheet) -> None:
     one.keys("p")
     way = at(one, *wave(60, 230, 260))
     draw(one, way[:60], lifts=False)
-    tally.check("a stroke is seen while it is drawn", other.page.wait("wb.others.heard.some(({ pointed }) => pointed.begun.length) || " + f"{ITEMS} === 1"))
+    tally.check("a stroke is seen while it is drawn", other.page.wait("wb.others.heard.some(({ beside }) => beside.shapes.length) || " + f"{ITEMS} === 1"))
     for point in way[60:]:
         one.page.touch("touchMove", point) if one.hand == "finger" else one.page.mouse("mouseMoved", *point)
     lift(one, way[-1])

@@ -44,15 +44,15 @@ def test_twin(tally: Tally, room: Path, browser: Browser, one: Sheet, member: Me
 
 
 def test_end(tally: Tally, one: Sheet, started: Member, again: Callable[[int], Member]) -> Member:
-    """The program of a page ends, and is started anew."""
+    """The program of a page ends, and is started anew: the window goes on by itself."""
     pages = one.page.value("wb.session.pages.length")
+    one.page.value("window.before = 1; 0")
     tally.check("the program ends by SIGTERM with 0", started.end() == 0)
     tally.check("the page says so", one.page.wait("document.getElementById('phrase').textContent.includes('does not answer')"))
     port = int(re.findall(r":(\d+)/", started.address)[0])
     anew = again(port)
-    tally.check("it says that the address is another one", one.page.wait("document.getElementById('phrase').textContent.includes('started anew')"), one.text_of("phrase"))
-    one.page.call("Page.navigate", url=anew.address)
-    tally.check("by that it is there again", one.page.wait("typeof wb !== 'undefined' && wb.session.link === 'open' && wb.session.hello.me"))
+    tally.check("it has the same address", anew.address == started.address)
+    tally.check("without a reload it is there again", one.page.wait("window.before === 1 && wb.session.link === 'open' && wb.session.hello.ready"))
     tally.check("the record has kept its number", anew.number == started.number)
     tally.check("and all that was drawn", pages > 0 and one.page.wait(f"wb.session.pages.length === {pages}"), one.text_of("pages"))
     return anew

@@ -6,8 +6,14 @@ import { colourOf } from '../../live/ui/colours.js';
 import { HttpMember } from '../../live/ui/connection.js';
 import { htmlOf, svgOf, textOf } from '../../live/ui/exports.js';
 import { clockOf, sceneAt } from '../../live/ui/film.js';
+import { Grid } from '../../live/ui/grid.js';
 import { readInk } from '../../live/ui/ink.js';
+import { itemAt, meets } from '../../live/ui/inkfind.js';
+import { itemsOf } from '../../live/ui/inkitems.js';
+import { momentsOf, rowsOf, shownAt } from '../../live/ui/history.js';
+import { placed } from '../../live/ui/inkwriting.js';
 import { Layout } from '../../live/ui/layout.js';
+import { calledBy, isGone, leavesOf } from '../../live/ui/leaves.js';
 import { initialsOf, readNotes, spoken } from '../../live/ui/notes.js';
 import { readBeside, viewLine } from '../../live/ui/points.js';
 import { gripAt, gripsOf, stretchOf, stretched } from '../../live/ui/resizing.js';
@@ -158,6 +164,43 @@ function testLetters() {
   check('a colour has no letters', readNotes(['colour~ 3', 'next~ x'].map(at)), readNotes([at('x', 1)]));
 }
 
+/** The pages that are listed, in the order that all agree on. */
+function testLeaves() {
+  const pages = ['1/1', '7/1', '9/3', '8/1'].map((page, i) => ({ page, drawn: i === 3 ? 0 : 2, last: String(10 * i) })), all = [{ page: '0/0', drawn: 9 }, ...pages];
+  const word = (seq, letters) => named(text(0, seq, letters), seq), ordered = (...words) => readNotes(words.map((letters, i) => word(i + 1, letters)));
+  const listed = (inView, ...words) => leavesOf(all, ordered(...words), inView).map(({ page }) => page).join(' ');
+  check('as they were begun, but for the reserved one', listed('1/1'), '1/1 7/1 9/3 8/1');
+  check('one is put behind another, and another first', [listed('1/1', 'place 1/1 9/3'), listed('1/1', 'place 1/1 9/3', 'place 9/3 0/0')], ['7/1 9/3 1/1 8/1', '9/3 7/1 1/1 8/1']);
+  check('what names no page, or itself, moves nothing', listed('1/1', 'place 1/1 5/5', 'place 5/5 1/1', 'place 1/1 1/1', 'place 1/1', 'place x 1/1'), '1/1 7/1 9/3 8/1');
+  check('a deleted page is not listed unless it is in view', [listed('1/1', 'gone 7/1'), listed('7/1', 'gone 7/1'), listed('1/1', 'gone 7/1 x')], ['1/1 7/1 9/3 8/1', '1/1 7/1 9/3 8/1', '1/1 7/1 9/3 8/1']);
+  const told = { places: [['9/3', '7/1'], ['1/1', '9/3']], gone: new Map([['7/1', [{ time: '10' }]], ['9/3', [{ time: '19' }]]]) };
+  check('what was drawn after it was deleted is', leavesOf(pages, told, '8/1').map(({ page }) => page), ['9/3', '1/1', '8/1']);
+  check('by the last time', [isGone(pages[1], told.gone), isGone(pages[2], told.gone), isGone(pages[0], told.gone)], [true, false, false]);
+  check('pages by their places', ['1/1', '9/3', '8/1', '5/5'].map((page) => calledBy(pages, page)), ['Page 1', 'Page 3', 'New page', 'New page']);
+  check('the first page of an empty board', calledBy([{ page: '1/1', drawn: 0 }], '1/1'), 'Page 1');
+}
+
+/** What was erased, a row for each step. */
+function testErased() {
+  const ink = (seq, source, isAgain = false) => ({ ...placed('~s$1!hV#HJ', seq, isAgain), source, seq, time: String(1e6 * seq) });
+  const erased = (drawing, by, seq, at, before = null) => ({ ...drawing, erased: [by, seq, String(at), before] });
+  const rows = (drawops, ...hidden) => rowsOf({ page: '1/1', drawops, hidden, rows: [] }).map(({ by, at, drawings }) => [by, at, drawings.map(({ seq }) => seq)]);
+  const three = [1, 2, 3].map((seq) => erased(ink(seq, 7), 8, 10 + seq, 9e6 + seq * 1e5, seq === 1 ? null : 'delete'));
+  check('what one erased at once is one row, by who erased', rows([], ...three), [[8, 9.1e6, [1, 2, 3]]]);
+  check('one that was restored since is missing in it', rows([ink(2, 7)], three[0], three[2]), [[8, 9.1e6, [1, 3]]]);
+  check('later it is another one, which comes first', rows([], three[0], erased(ink(4, 7), 8, 12, 11e6, 'delete')), [[8, 11e6, [4]], [8, 9.1e6, [1]]]);
+  check('after something else it is another one', rows([], three[0], erased(ink(4, 7), 8, 13, 9.2e6, 'text')), [[8, 9.2e6, [4]], [8, 9.1e6, [1]]]);
+  check('of two members two', rows([], three[0], erased(ink(4, 7), 9, 12, 9.1e6, 'delete')).length, 2);
+  check('what was moved was not erased', rows([ink(5, 8, true)], erased(ink(1, 7), 8, 6, 6e6, 'text'), erased(ink(2, 7), 8, 7, 6e6, 'delete')), []);
+  check('nor is what an undo put back', rows([ink(1, 7)], erased(ink(5, 8, true), 8, 9, 9e6, 'restore')), []);
+  check('what is left of an erased item was drawn new', rows([ink(5, 8)], erased(ink(1, 7), 8, 6, 6e6, 'text')), [[8, 6e6, [1]]]);
+  const far = { ...line(2, 2, 6, 2), source: 8, seq: 5, time: '5' };
+  check('a line of cells that was moved', [rows([far], erased({ ...line(1, 1, 5, 1), source: 7, seq: 1, time: '1' }, 8, 6, 6, 'line')), rows([far], erased({ ...line(1, 1, 6, 1), source: 7, seq: 1, time: '1' }, 8, 6, 6, 'line')).length], [[], 1]);
+  const board = { page: '1/1', drawops: [ink(4, 7)], hidden: three, rows: [] };
+  check('the page as it was', [0, 1.5, 5, 9.15, 9.5].map((at) => shownAt(board, at * 1e6).map(({ seq }) => seq).sort().join('')), ['', '1', '1234', '234', '4']);
+  check('its moments, of a second one', momentsOf(board), [1e6, 2e6, 3e6, 4e6, 9.3e6]);
+}
+
 /** What the member says of itself, in words for everyone. */
 function testState() {
   check('the connection', [['open', 3], ['lost', 0], ['lost', 1], ['lost', 12], ['gone', 2]].map(([link, many]) => linked(link, many)),
@@ -248,6 +291,42 @@ function testChanges() {
   check('what became of it', told, [[true, 0, 50, 50, 0], [false, 1, 0, 49, 1], [false, 0, 51, 100, 0], [false, 1, 1, 100, 0], [false, 1, 0, 99, 0]]);
 }
 
+/** Numbers below a bound, the same in each run. */
+const chanceOf = (seed) => (most) => {
+  seed = (Math.imul(seed, 1664525) + 1013904223) >>> 0;
+  return Math.floor((seed / 2 ** 32) * most);
+};
+
+/** Lines and frames of all sizes, some as large as the page, most of them small and near one another. */
+function itemsAtRandom(many, chance) {
+  return itemsOf(Array.from({ length: many }, (_, i) => {
+    const far = 2 ** chance(12), [x, y] = [chance(chance(3) ? 400 : 4096), chance(chance(3) ? 400 : 4096)];
+    const to = (at) => Math.min(4095, Math.max(0, at + chance(2 * far) - far));
+    return named({ op: chance(2) ? 'line' : 'frame', x0: x, y0: y, x1: to(x), y1: to(y), glyph: '*' }, 2 * i + 1, 1 + chance(3));
+  }));
+}
+
+/** What stands where is found as by looking at all, and so much sooner that a full page has it between two moves of a hand. */
+function testGrid() {
+  const chance = chanceOf(7), items = itemsAtRandom(2_000, chance), grid = new Grid(), left = items.filter((_, i) => i % 3);
+  grid.change([], items);
+  grid.change(items.filter((_, i) => i % 3 === 0), []);
+  const wrong = Array.from({ length: 400 }, () => {
+    const at = { x: chance(30_000), y: chance(50_000) }, near = chance(300), box = { x0: at.x, y0: at.y, x1: at.x + chance(chance(2) ? 3_000 : 300_000), y1: at.y + chance(3_000) };
+    const found = grid.within(box, left).filter((item) => meets(item, box)), all = left.filter((item) => meets(item, box));
+    return found.length !== all.length || found.some((item, i) => item !== all[i]) || grid.itemAt(at, near) !== itemAt(left, at, near) || (all.length > 0 && !grid.hasAny(box));
+  }).filter(Boolean).length;
+  check('points and boxes in which another item is found', wrong, 0);
+  check('an empty part of the page', [grid.hasAny({ x0: 262_200, y0: 491_600, x1: 262_201, y1: 491_601 }), new Grid().itemAt({ x: 5, y: 5 }, 100)], [false, undefined]);
+  const many = itemsOf(Array.from({ length: 60_000 }, (_, i) => named(line(4 * (i % 250), 4 * Math.floor(i / 250), 4 * (i % 250) + 2, 4 * Math.floor(i / 250) + 2), 2 * i + 1))), full = new Grid();
+  full.change([], many);
+  const points = Array.from({ length: 2_000 }, () => ({ x: chance(64_000), y: chance(115_000) })), began = performance.now();
+  points.forEach((at) => full.itemAt(at, 45));
+  const each = (performance.now() - began) / points.length;
+  console.log(`a point among ${many.length} items takes ${each.toFixed(4)} ms`);
+  check('it is found in time', each < (process.env.WB_MEASURE ? 0.2 : 2), true);
+}
+
 /** A program that answers too late, or in part: nothing is thrown, so the page goes on. */
 async function testLateAnswers() {
   const member = new HttpMember('token'), { fetch } = globalThis, late = () => Promise.reject(new Error('signal timed out')), shown = { page: '1/1', drawops: [] };
@@ -296,5 +375,5 @@ async function testAskedAgain() {
   }
 }
 
-for (const each of [testSession, testBeside, testChanges, testNotes, testLetters, testStretch, testState, testExports,
+for (const each of [testSession, testBeside, testGrid, testChanges, testNotes, testLetters, testLeaves, testErased, testStretch, testState, testExports,
   testFilm, testCells, testShapes, testTexts, testWords, testColours, testLayout, testFlood, testOrder, testLateAnswers, testAskedAgain]) test(each.name.slice('test'.length), each);

@@ -30,6 +30,16 @@ export function writeInvitation({ session, broker, key }) {
   return `#${words}`;
 }
 
+/** The same for others: of a name and a password at the broker it tells nothing, each has his own.
+ * @param {Invitation} invitation @returns {Invitation} */
+export function forOthers(invitation) {
+  if (!invitation.broker) return invitation;
+  const broker = new URL(invitation.broker);
+  if (!broker.username && !broker.password) return invitation;
+  broker.username = broker.password = '';
+  return { ...invitation, broker: broker.href };
+}
+
 /** A name for a session that hardly any other has. */
 export function newName() {
   return [...crypto.getRandomValues(new Uint8Array(8))].map((byte) => 'abcdefghijkmnpqrstuvwxyz23456789'[byte & 31]).join('');

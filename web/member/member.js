@@ -11,7 +11,7 @@ import { Presence, isAside, readGone } from './presence.js';
 import { Telling } from './telling.js';
 import { Wire } from './wire.js';
 
-/** The page of names, titles and the chat, which is not turned to by itself (docs/WORDS.md). */
+/** The page of names, titles and the chat, which is not turned to by itself (docs/SCRIPTS.md). */
 const NOTES = '0/0';
 
 /** A turn waits this many milliseconds at most. */

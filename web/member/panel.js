@@ -1,6 +1,6 @@
 /** Drawing with others, what is kept, and what is proved: a dialog of the page. */
 import { $, make, tell } from '../../live/ui/dom.js';
-import { newName, readInvitation, writeInvitation } from './invitation.js';
+import { forOthers, newName, readInvitation, writeInvitation } from './invitation.js';
 import { canSeal, newKey } from './seal.js';
 
 /** What the build says of itself.
@@ -65,7 +65,7 @@ export class Panel {
     if (!broker) {
       return [make('h2', 'Draw with others'), make('p', TABS), field('broker', 'Broker', ''), button('Begin a session there', () => this.move())];
     }
-    const line = field('line', 'Invitation', location.href.replace(/#.*/, '') + writeInvitation(this.invitation));
+    const line = field('line', 'Invitation', location.href.replace(/#.*/, '') + writeInvitation(forOthers(this.invitation)));
     line.querySelector('input').readOnly = true;
     const share = 'share' in navigator ? [button('Share', () => navigator.share({ url: this.line() }).catch(() => {}))] : [];
     const unsealed = this.invitation.key ? [] : [make('p', 'This session has no key: the broker, and all who reach it, can read and draw.', 'warning')];

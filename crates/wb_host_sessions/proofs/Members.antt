@@ -1,5 +1,5 @@
 -- What hosts of any kind do, members do.
-use Rattle.std.proofs.Common.{◌≡◌, ℕ, List, [], ◌∷◌, ◌++◌, ◌∙◌, ap, append-nil, arith, refl, subst, sym}
+use Rattle.std.proofs.Common.{◌≡◌, List, [], ◌∷◌, ◌++◌, ◌∙◌, ap, append-nil, arith, refl, subst, sym}
 use Rattle.std.specs.Prelude.{Contains}
 use Rattle.std.proofs.lemmas.List.Elements.{Contains-append_left, Contains-append_right}
 use Rattle.wb_names.specs.Values.{DrawopValue}
@@ -15,7 +15,6 @@ use Rattle.wb_laws_machines.proofs.Composed.{after_both, both_taken, drawn_by_bo
 use Rattle.wb_host_sessions.proofs.Hosts.{same_member as same_set}
 use Rattle.wb_names.proofs.Listings.{Contains-none}
 use Rattle.wb_judged_sessions.proofs.Judged.{judged_is_map}
-use Rattle.wb_laws_kept.specs.Kept.{kept_map}
 use Rattle.wb_laws_kept.proofs.Kept.{kept_is_map}
 
 -- ---- a member is over itself

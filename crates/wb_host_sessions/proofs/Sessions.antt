@@ -14,11 +14,9 @@ use Rattle.wb_laws_kept.specs.Sessions.{Begins, Call as KeptCall, Handed}
 use Rattle.wb_judged_sessions.specs.Sessions.{plain_line, JudgedCall, Starts, Takes, Tunes}
 use Rattle.wb_laws_machines.specs.Honest.{AreHonest, IsAbove, IsOn}
 use Rattle.wb_host_sessions.specs.Hosts.{Drives, Driven, Host, HostEvent, Judged, Judges, Keeps, Kept, Sets, hosts, judged_in, kept_in, member_of}
-use Rattle.wb_host_sessions.specs.Members.{hosts_map}
 use Rattle.wb_judged_sessions.specs.Judged.{judged}
 use Rattle.wb_laws_kept.specs.Kept.{kept}
 use Rattle.wb_laws_machines.specs.Machines.{At, drawn_at, state_at}
-use Rattle.wb_laws_machines.specs.Maps.{below}
 use Rattle.wb_host_sessions.specs.Sessions.{DrawsAnew, HostsAgree, HostsAreMembers, KeepTo, KnowsItsOwn, NothingIsInvented}
 use Rattle.wb_laws_machines.proofs.Drawn.{each_was_drawn, names_mean_one, number_at}
 use Rattle.wb_laws_machines.proofs.Honest.{honest_below}

@@ -1,5 +1,5 @@
 -- Laws of members are laws of hosts of all kinds.
-use Rattle.std.proofs.Common.{◌≡◌, ℕ, true, List, None, subst}
+use Rattle.std.proofs.Common.{◌≡◌, true, List, None, subst}
 use Rattle.std.specs.Prelude.{is_some}
 use Rattle.wb_recovery.specs.Events.{timers_of}
 use Rattle.wb_keeper.specs.Keeper.{holds}

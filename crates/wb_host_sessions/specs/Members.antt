@@ -1,5 +1,5 @@
 -- What hosts of any kind do as members.
-use Rattle.std.specs.Prelude.{◌≡◌, ℕ, List, [], ◌∷◌, ◌++◌}
+use Rattle.std.specs.Prelude.{List, [], ◌∷◌, ◌++◌}
 use Rattle.wb_member.specs.Opened.{Opened}
 use Rattle.wb_laws_machines.specs.Maps.{Map, both}
 use Rattle.wb_laws_sessions.specs.Members.{Deed, Opens}

@@ -8,11 +8,11 @@ use Rattle.wb_names.specs.declared.parts.Op.{Op}
 use Rattle.wb_names.proofs.Listings.{Contains-cases, Contains-here, Contains-none, Contains-there}
 use Rattle.wb_codec.specs.declared.datagram.Datagram.{Datagram}
 use Rattle.wb_codec.specs.declared.datagram.Datagram.TheVariants.{AskPages, Draw, PageState, Request, Session}
-use Rattle.wb_member.specs.Lines.{Line, Arrives, Calls, Says, after_line, after_lines, ticks_at}
+use Rattle.wb_member.specs.Lines.{Line, Arrives, Calls, Says, after_line, ticks_at}
 use Rattle.wb_member.specs.Opened.{Opened, becomes, opened_with, present, ticked}
 use Rattle.wb_member.specs.declared.calls.Call.TheVariants as calls
 use Rattle.wb_keeping.specs.Kept.{adds, and_then, came, drawing, ends_full, ticks, timed}
-use Rattle.wb_keeping.specs.Laws.{Added, Came, KeptLine, Ticked, Tuned, doing_of, expand}
+use Rattle.wb_keeping.specs.Laws.{Added, Came, Ticked, Tuned, doing_of, expand}
 use Rattle.wb_keeping.specs.Performing.{Keeping, sees, view_of}
 use Rattle.wb_keeping.proofs.EachLine.{Each, each_both, ends_each, then_each}
 use Rattle.wb_laws_sessions.specs.Members.{new_where, Does, member}
@@ -20,12 +20,12 @@ use Rattle.wb_laws_sessions.proofs.Honest.{IsGiven}
 use Rattle.wb_laws_sessions.proofs.Drawn.{new_is}
 use Rattle.wb_laws_kept.specs.Openings.{opened}
 use Rattle.wb_laws_kept.specs.Restarts.{drawops_in}
-use Rattle.wb_laws_kept.specs.Sessions.{Begins, Call, Handed, after_call, given_lines}
+use Rattle.wb_laws_kept.specs.Sessions.{Begins, Call, Handed, given_lines}
 use Rattle.wb_laws_kept.proofs.Steps.{call_is}
 use Rattle.wb_laws_kept.proofs.Honest.{came_given, moments_given, of_policy, record_given, ticks_given, timed_given}
 use Rattle.wb_laws_machines.specs.Honest.{IsLawful}
 use Rattle.wb_laws_kept.specs.Kept.{deeds_of, drawn_by, gained_by, kept, kept_map}
-use Rattle.wb_laws_machines.specs.Machines.{AreAllTaken, after_all, drawn_by_all, gained_by_all}
+use Rattle.wb_laws_machines.specs.Machines.{AreAllTaken, drawn_by_all, gained_by_all}
 use Rattle.wb_laws_machines.specs.Maps.{IsMap}
 use Rattle.wb_laws_machines.proofs.Mapped.{lawful_over}
 use Rattle.wb_laws_sessions.proofs.Members.{member_is_lawful, new_few}

@@ -1,5 +1,5 @@
 -- Self-managing members are members of a session: calls are steps.
-use Rattle.std.proofs.Common.{◌≡◌, ℕ, Bool, true, false, cond, List, [], ◌∷◌, ◌++◌, ◌∙◌, ap, eqb-true, map, refl, sym}
+use Rattle.std.proofs.Common.{◌≡◌, ℕ, Bool, true, false, cond, List, [], ◌∷◌, ◌++◌, ◌∙◌, ap, eqb-true, refl, sym}
 use Rattle.std.specs.Prelude.{nat_eq}
 use Rattle.wb_member.specs.Lines.{ticks_at}
 use Rattle.wb_member.specs.Opened.{Opened, opened_with}
@@ -9,10 +9,10 @@ use Rattle.wb_keeping.specs.Performing.{Keeping, sees}
 use Rattle.wb_keeping.proofs.KeptHosts.{kept_hosts_are_hosts}
 use Rattle.wb_keeping.proofs.Performed.{after_both}
 use Rattle.wb_laws_sessions.specs.Sessions.{after_deeds, host_at, steps_then}
-use Rattle.wb_laws_sessions.specs.Members.{Deed, Does}
+use Rattle.wb_laws_sessions.specs.Members.{Deed}
 use Rattle.wb_laws_sessions.proofs.Several.{after_all, after_performed}
 use Rattle.wb_laws_kept.specs.Kept.{deeds_of}
-use Rattle.wb_laws_kept.specs.Sessions.{Begins, Call, CallAt, Handed, KeptIsSession, after_call, given_lines, kept_at, lines_of_call, opens_of_call, steps_of}
+use Rattle.wb_laws_kept.specs.Sessions.{Begins, Call, CallAt, Handed, KeptIsSession, after_call, given_lines, kept_at, steps_of}
 
 pub call_is : (call : Call) (k : Keeping) → after_deeds (deeds_of call k) k.host ≡ (after_call call k).host
 call_is (Handed line) k = after_performed (doing_of line (sees k.host) k.policy).lines k.host

@@ -5,7 +5,6 @@ use Rattle.wb_names.specs.History.{HoldsName, IsHistory, highest}
 use Rattle.wb_names.specs.Marks.{mark_of}
 use Rattle.wb_names.specs.Values.{DrawopValue, MarkValue, NameValue}
 use Rattle.wb_names.specs.declared.name.PageId.{PageId}
-use Rattle.wb_names.specs.Arrivals.{Clash}
 use Rattle.wb_names.specs.declared.gap.Gap.{Gap}
 use Rattle.wb_names.proofs.Listings.{Contains-none}
 use Rattle.wb_gaps.specs.Answers.{gaps_of, report_of}
@@ -15,13 +14,13 @@ use Rattle.wb_gaps.proofs.PageAnswers.{report_of_page}
 use Rattle.wb_display.specs.Canvas.{canvas_text}
 use Rattle.wb_keeper.specs.Hearing.{marks_heard}
 use Rattle.wb_keeper.proofs.KeptCalls.{holds_or_not}
-use Rattle.wb_member.specs.Opened.{Opened, becomes, gaps_at, shown}
+use Rattle.wb_member.specs.Opened.{Opened, gaps_at, shown}
 use Rattle.wb_board.specs.Counts.{MAX_CELLS}
 use Rattle.wb_board.proofs.Agreement.{ShareAPage}
 use Rattle.wb_laws_machines.specs.Agreement.{Agree}
 use Rattle.wb_laws_machines.specs.Honest.{AreApart, AreHonest, IsLawful, IsOn}
 use Rattle.wb_laws_machines.specs.Laws.{HeldOnce, HeldWasDrawn, NamesMeanOne, NoneClashes, NumbersCount, ReportsTellAgreement, WholeBoardsAgree}
-use Rattle.wb_laws_machines.specs.Machines.{AreTaken, At, Machine, WasDrawn, WasHeld, member_at, ◌⊑◌, whole}
+use Rattle.wb_laws_machines.specs.Machines.{AreTaken, At, Machine, WasDrawn, member_at, ◌⊑◌, whole}
 use Rattle.wb_laws_machines.proofs.Names.{at_most_highest, named, of_name}
 use Rattle.wb_laws_machines.proofs.Outcomes.{Found, found}
 use Rattle.wb_laws_machines.proofs.Sharing.{view_alike}

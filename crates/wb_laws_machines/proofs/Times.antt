@@ -4,7 +4,7 @@ use Rattle.std.specs.Prelude.{◌+◌, Contains}
 use Rattle.wb_codec.specs.declared.datagram.Datagram.{Datagram}
 use Rattle.wb_progress.specs.Turns.{IsNowAt, Terms, settled_by}
 use Rattle.wb_member.specs.Judged.{is_full}
-use Rattle.wb_laws_machines.specs.Machines.{AreTaken, At, Machine, drawn_by_all, happen, member_at, sent_by_all, state_at, ◌⊑◌, whole, part}
+use Rattle.wb_laws_machines.specs.Machines.{At, Machine, drawn_by_all, happen, member_at, sent_by_all, state_at, ◌⊑◌, whole, part}
 use Rattle.wb_laws_machines.specs.Maps.{HasSame, IsMap, Map, below}
 use Rattle.wb_laws_machines.specs.Times.{AreInOrder, Clocked, ComesBy, KeepsTime, IsMapInTime, WasSentBy, time_of}
 use Rattle.wb_laws_machines.proofs.Mapped.{below_behind, member_below, sound_at, state_below, taken_below}

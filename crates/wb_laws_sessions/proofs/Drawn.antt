@@ -1,17 +1,16 @@
 -- Nothing is invented: what is held was drawn, and each name means one drawop.
-use Rattle.std.proofs.Common.{◌≡◌, ◌⊎◌, ℕ, ◌<◌, ◌≤◌, List, [], ◌∷◌, ◌++◌, refl, subst, sym, ⊎_elim}
+use Rattle.std.proofs.Common.{◌≡◌, ◌⊎◌, ℕ, ◌≤◌, List, [], ◌∷◌, ◌++◌, refl, subst, sym, ⊎_elim}
 use Rattle.std.specs.Prelude.{Contains}
 use Rattle.wb_names.specs.Arrivals.{Outcome, New, Again, Clash, Left}
+use Rattle.wb_names.specs.History.{IsHistory}
 use Rattle.wb_names.specs.Values.{DrawopValue}
 use Rattle.wb_names.proofs.Listings.{Contains-none}
-use Rattle.wb_codec.specs.declared.datagram.Datagram.TheVariants.{Draw}
 use Rattle.wb_member.specs.Lines.{Arrives, Calls, Says}
 use Rattle.wb_member.specs.Opened.{Opened, becomes}
-use Rattle.wb_laws_machines.specs.Honest.{AnyName, AreHonest as AreHonestOf, IsAbove}
+use Rattle.wb_laws_machines.specs.Honest.{AnyName, AreApart, AreHonest as AreHonestOf, IsAbove}
 use Rattle.wb_laws_machines.specs.Machines.{◌⊑◌, whole, part}
 use Rattle.wb_laws_machines.proofs.Drawn as of
-use Rattle.wb_laws_machines.proofs.Outcomes.{Found, found}
-use Rattle.wb_laws_sessions.specs.Drawn.{AreHonest, HeldOnce, HeldWasDrawn, NamesMeanOne, NoneClashes, NumbersCount, OnceHeldWasDrawn, WasDrawn, WasHeld, drawn_at}
+use Rattle.wb_laws_sessions.specs.Drawn.{AreHonest, WasDrawn, WasHeld, drawn_at}
 use Rattle.wb_laws_sessions.specs.Members.{Deed, Does, Opens, drawn_by, gained_by, member, new_where}
 use Rattle.wb_laws_sessions.specs.Sessions.{Step, host_at}
 use Rattle.wb_laws_sessions.proofs.Deeds.{deed_draws}
@@ -67,29 +66,17 @@ module _ (numbers : ℕ → ℕ) where
   pub numbers_count : (steps : List Step) → AreHonest numbers steps → (i : ℕ) (d : DrawopValue) → Contains (drawn_at numbers steps i) d → (d.name.source ≡ numbers i) × (1 ≤ d.name.seq)
   numbers_count steps honest i d c = of.numbers_count member numbers AnyName member_is_lawful steps (honest_is steps honest) i d tt c
 
--- ---- laws
+-- ---- what holds
 
-pub numbers_count_law : NumbersCount
-numbers_count_law numbers steps honest i d c = numbers_count numbers steps honest i d c
-
-pub once_held_was_drawn : OnceHeldWasDrawn
+pub once_held_was_drawn : (numbers : ℕ → ℕ) (steps : List Step) → AreHonest numbers steps → (d : DrawopValue) → WasHeld numbers steps d → WasDrawn numbers steps d
 once_held_was_drawn numbers steps honest d w =
     of.each_was_drawn member numbers AnyName member_is_lawful steps (honest_is numbers steps honest) w.older (behind numbers steps w.newer w.older w.split) w.place d tt w.held
 
-pub held_was_drawn : HeldWasDrawn
+pub held_was_drawn : (numbers : ℕ → ℕ) (steps : List Step) → AreHonest numbers steps → (i : ℕ) (d : DrawopValue) → Contains (host_at numbers steps i).is.held d → WasDrawn numbers steps d
 held_was_drawn numbers steps honest i d c = of.each_was_drawn member numbers AnyName member_is_lawful steps (honest_is numbers steps honest) steps whole i d tt c
 
-pub names_mean_one : NamesMeanOne
+pub names_mean_one : (numbers : ℕ → ℕ) (steps : List Step) → AreApart numbers → AreHonest numbers steps → (d x : DrawopValue) → WasDrawn numbers steps d → WasDrawn numbers steps x → d.name ≡ x.name → d ≡ x
 names_mean_one numbers steps apart honest d x c f same = of.names_mean_one member numbers AnyName member_is_lawful apart steps (honest_is numbers steps honest) d x tt c f same
 
-pub held_once : HeldOnce
+pub held_once : (numbers : ℕ → ℕ) (steps : List Step) (i : ℕ) → IsHistory (host_at numbers steps i).is.held
 held_once numbers steps i = of.held_once_at member numbers member_is_lawful steps i
-
-pub none_clashes : NoneClashes
-none_clashes numbers older e d place apart honest arrives clashed =
-    let host = host_at numbers older e.place in
-    let f : (x : DrawopValue) × Contains host.is.held x × (x.name ≡ d.name) × (x ≡ d → ⊥) = subst (Found host.is.held d) clashed (found host.is.cells 0 host.is.held d) in
-    let w = honest.0.comes d arrives in
-    f.3 (names_mean_one numbers older apart honest.1 f.0 d
-    (held_was_drawn numbers older honest.1 e.place f.0 f.1)
-    (once_held_was_drawn numbers older honest.1 d w) f.2)

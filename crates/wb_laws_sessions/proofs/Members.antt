@@ -1,5 +1,5 @@
 -- Members keep the laws of machines.
-use Rattle.std.proofs.Common.{◌≡◌, ◌⊎◌, ℕ, ◌≤◌, Bool, true, false, cond, List, [], ◌∷◌, arith, inl, inr, length, refl, subst, sym, ⊎_elim}
+use Rattle.std.proofs.Common.{◌⊎◌, ◌≤◌, Bool, true, false, cond, [], ◌∷◌, arith, inl, inr, length, refl, subst, sym, ⊎_elim}
 use Rattle.std.specs.Prelude.{Contains, nat_eq}
 use Rattle.wb_names.specs.Arrivals.{Outcome, New, Again, Clash, Left, outcome_of}
 use Rattle.wb_names.specs.Values.{DrawopValue}
@@ -14,7 +14,7 @@ use Rattle.wb_laws_sessions.specs.Members.{drawn_by, new_where, Deed, Does, Open
 use Rattle.wb_laws_sessions.proofs.Deeds.{number_after, once_after, saying_brings}
 use Rattle.wb_laws_sessions.proofs.Room.{with_room}
 use Rattle.wb_laws_machines.specs.Honest.{IsLawful}
-use Rattle.wb_laws_machines.specs.Machines.{At, member_at}
+use Rattle.wb_laws_machines.specs.Machines.{member_at}
 use Rattle.wb_laws_machines.proofs.Mapped.{TakenAreSmall}
 
 abbrev ComesTo : Deed → Opened → DrawopValue → Type 0

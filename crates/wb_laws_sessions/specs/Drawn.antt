@@ -1,14 +1,12 @@
 -- What is drawn and held in a session, and what it asks of what comes and is drawn.
 use Rattle.std.specs.Prelude.{◌≡◌, ◌⊎◌, ℕ, ◌≤◌, List, [], ◌∷◌, ◌++◌, Contains}
-use Rattle.wb_names.specs.Arrivals.{Clash}
-use Rattle.wb_names.specs.History.{IsHistory}
 use Rattle.wb_names.specs.Values.{DrawopValue}
 use Rattle.wb_codec.specs.declared.datagram.Datagram.TheVariants.{Draw}
 use Rattle.wb_board.specs.Counts.{MAX_CELLS}
 use Rattle.wb_recovery.specs.declared.tuning.Tuning.{Tuning}
 use Rattle.wb_member.specs.Lines.{Arrives, Says}
-use Rattle.wb_member.specs.Opened.{becomes}
-use Rattle.wb_laws_machines.specs.Honest.{AreApart, IsAbove}
+use Rattle.wb_laws_machines.specs.Honest.{IsAbove}
+use Rattle.wb_laws_machines.specs.Honest as asked
 use Rattle.wb_laws_machines.specs.Machines as of
 use Rattle.wb_laws_sessions.specs.Members.{Does, Opens, member}
 use Rattle.wb_laws_sessions.specs.Sessions.{Step, host_at, sent}
@@ -48,41 +46,13 @@ AreHonest numbers (e ∷ older) = IsHonestStep numbers older e × AreHonest numb
 abbrev pub WasDrawn : (ℕ → ℕ) → List Step → DrawopValue → Type 0
 WasDrawn = of.WasDrawn member
 
--- What a member holds was drawn.
-abbrev pub HeldWasDrawn : Type 0
-HeldWasDrawn = (numbers : ℕ → ℕ) (steps : List Step) → AreHonest numbers steps
-    → (i : ℕ) (d : DrawopValue) → Contains (host_at numbers steps i).is.held d
-    → WasDrawn numbers steps d
-
--- So was what a member held at an earlier step.
-abbrev pub OnceHeldWasDrawn : Type 0
-OnceHeldWasDrawn = (numbers : ℕ → ℕ) (steps : List Step) → AreHonest numbers steps
-    → (d : DrawopValue) → WasHeld numbers steps d → WasDrawn numbers steps d
-
--- No two drawops that were drawn have one name.
-abbrev pub NamesMeanOne : Type 0
-NamesMeanOne = (numbers : ℕ → ℕ) (steps : List Step) → AreApart numbers → AreHonest numbers steps
-    → (d e : DrawopValue) → WasDrawn numbers steps d → WasDrawn numbers steps e
-    → d.name ≡ e.name → d ≡ e
-
--- What the member at a place draws has its number, and a sequence number from 1 on.
-abbrev pub NumbersCount : Type 0
-NumbersCount = (numbers : ℕ → ℕ) (steps : List Step) → AreHonest numbers steps
-    → (i : ℕ) (d : DrawopValue) → Contains (drawn_at numbers steps i) d
-    → (d.name.source ≡ numbers i) × (1 ≤ d.name.seq)
-
--- No name stands twice on a board.
-abbrev pub HeldOnce : Type 0
-HeldOnce = (numbers : ℕ → ℕ) (steps : List Step) (i : ℕ)
-    → IsHistory (host_at numbers steps i).is.held
+-- Such steps are taken, and keep to what is asked of a machine, of all names. That is less: nothing of
+-- what comes or is said and is not taken anew.
+abbrev pub StepsAreHonest : Type 0
+StepsAreHonest = (numbers : ℕ → ℕ) (steps : List Step) → AreHonest numbers steps
+    → of.AreTaken member numbers steps × asked.AreHonest asked.AnyName member numbers steps
 
 -- A drawop that was sent, by its source or as a repair, was held. So what was sent may come.
 abbrev pub SentWasHeld : Type 0
 SentWasHeld = (numbers : ℕ → ℕ) (steps : List Step) (d : DrawopValue)
     → Contains (sent numbers steps) (Draw d) → WasHeld numbers steps d
-
--- What comes clashes with nothing that is held.
-abbrev pub NoneClashes : Type 0
-NoneClashes = (numbers : ℕ → ℕ) (older : List Step) (e : Step) (d : DrawopValue) (place : ℕ)
-    → AreApart numbers → AreHonest numbers (e ∷ older) → e.event ≡ Does (Arrives d)
-    → becomes d (host_at numbers older e.place) ≡ Clash place → ⊥

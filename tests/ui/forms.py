@@ -1,0 +1,94 @@
+"""The forms that every board has, by real events: diamonds, lines that are bent, heads at both ends, full shapes, a stroke that is held straight, and an
+eraser that takes only what it touches."""
+from __future__ import annotations
+
+import json
+import time
+from pathlib import Path
+
+from ..live.browser import CONTROL, Browser, Missed
+from .classroom import LOSSY, class_of, stroke
+from .inks import at, draw, lift
+from .sheets import Sheet, Tally
+from .writing import Point
+
+# of each item its kind, its flag, and how many points it has
+FORMS = "JSON.stringify(wb.ink.items.map(({ kind, flag, points }) => kind === 's' ? [kind, 1 + points.filter(({ up }) => up).length] : [kind, flag, points.length]))"
+
+# seconds after which a pen that rests holds its stroke straight
+HELD = 0.6
+
+
+def both(one: Sheet, other: Sheet, forms: list[list[object]]) -> bool | Missed:
+    wanted = json.dumps(json.dumps(forms, separators=(",", ":")))
+    return one.page.wait(f"{FORMS} === {wanted} && !wb.session.waiting.size") and other.page.wait(f"{FORMS} === {wanted}")
+
+
+def test_shapes(tally: Tally, anna: Sheet, tom: Sheet) -> None:
+    anna.keys("i")
+    anna.press("#style [aria-label=full]")
+    draw(anna, at(anna, (150, 200), (200, 230), (250, 280)))
+    tally.check("a full diamond", both(anna, tom, [["d", 2, 2]]), anna.page.value(FORMS))
+    anna.press("#style [aria-label=full]")
+    anna.keys("a")
+    anna.press("#style [aria-label='heads at both ends']")
+    draw(anna, at(anna, (300, 250), (400, 250), (500, 250)))
+    tally.check("an arrow with two heads", both(anna, tom, [["d", 2, 2], ["l", 3, 2]]), anna.page.value(FORMS))
+    anna.press("#style [aria-label='heads at both ends']")
+    anna.keys("v")
+    anna.page.click(*at(anna, (350, 250))[0])
+    anna.page.until("wb.hand.chosenItems().length === 1")
+    draw(anna, at(anna, (400, 250), (400, 280), (400, 310)))
+    tally.check("it is bent by its middle", both(anna, tom, [["d", 2, 2], ["l", 3, 3]]), anna.page.value(FORMS))
+    bend = "wb.ink.items[1].points.map(({ x, y }) => [Math.round(x * wb.view.wide / 64 - wb.view.corner()[0]), Math.round(y * wb.view.wide / 64 - wb.view.corner()[1])])"
+    tally.check("which is where the hand put it", tom.page.value(f"JSON.stringify({bend})") == "[[300,250],[500,250],[400,310]]", str(tom.page.value(bend)))
+    draw(anna, at(anna, (400, 310), (400, 280), (400, 251)))
+    tally.check("and straight again", both(anna, tom, [["d", 2, 2], ["l", 3, 2]]), anna.page.value(FORMS))
+    draw(anna, at(anna, (500, 250), (500, 220), (480, 180)))
+    tally.check("an end is moved alone", tom.page.wait(f"JSON.stringify({bend}) === '[[300,250],[480,180]]'"), str(tom.page.value(bend)))
+    anna.page.key("a", CONTROL)
+    anna.press("#chosen-delete")
+    tally.check("all are deleted", both(anna, tom, []))
+
+
+def test_held(tally: Tally, anna: Sheet, tom: Sheet) -> None:
+    """A pen that rests at the end of a stroke makes it straight, until it is lifted."""
+    anna.keys("p")
+    way: list[Point] = [(150 + 20 * n, 300 + (6 if n % 2 else -6)) for n in range(8)]
+    draw(anna, at(anna, *way), lifts=False)
+    tally.check("the pen rests", anna.page.wait("wb.pen.strokes?.isStraight", HELD + 5))
+    (x, y), = at(anna, (400, 340))
+    anna.page.mouse("mouseMoved", x, y)
+    lift(anna, (x, y))
+    anna.page.value("wb.pen.flush(); 0")
+    ends = "wb.ink.items[0]?.points.map(({ x, y }) => [Math.round(x * wb.view.wide / 64 - wb.view.corner()[0]), Math.round(y * wb.view.wide / 64 - wb.view.corner()[1])])"
+    tally.check("a straight stroke to where the pen was lifted", tom.page.wait(f"{ends} && JSON.stringify([{ends}[0], {ends}.at(-1)]) === '[[150,294],[400,340]]'"), str(tom.page.value(ends)))
+    off = f"Math.max(...{ends}.map(([x, y]) => Math.abs(294 + (x - 150) * 46 / 250 - y)))"
+    tally.check("nowhere off it", float(tom.page.value(off)) <= 1.5, str(tom.page.value(off)))
+    anna.page.key("z", CONTROL)
+    tally.check("one undo takes it back", both(anna, tom, []))
+
+
+def test_parts(tally: Tally, anna: Sheet, tom: Sheet) -> None:
+    """The eraser takes what it touches alone, if it is to."""
+    stroke(anna, *[(150 + 10 * n, 300) for n in range(31)])
+    tally.check("a line of a pen", both(anna, tom, [["s", 1]]))
+    anna.keys("e")
+    anna.press("#style [aria-label='only what it touches']")
+    draw(anna, at(anna, (300, 250), (300, 300), (300, 350)))
+    tally.check("is cut in two", both(anna, tom, [["s", 2]]), anna.page.value(FORMS))
+    gap = "wb.ink.items[0].points.flatMap(({ x, up }, i, all) => up ? [all[i - 1].x, x] : []).map((x) => Math.round(x * wb.view.wide / 64 - wb.view.corner()[0]))"
+    left, right = tom.page.value(gap)
+    tally.check("by as much as the eraser is wide", 285 <= left <= 294 and 306 <= right <= 315, f"{left} {right}")
+    anna.press("#style [aria-label='only what it touches']")
+    anna.page.key("z", CONTROL)
+    tally.check("one undo makes it whole", both(anna, tom, [["s", 1]]))
+    time.sleep(0.5)
+    draw(anna, at(anna, (300, 250), (300, 300), (300, 350)))
+    tally.check("else it takes all", both(anna, tom, []))
+
+
+def test_forms(tally: Tally, browser: Browser, room: Path, ports: int) -> None:
+    with class_of(browser, room, ports, [("Anna", 0.0), ("Tom", LOSSY)]) as (anna, tom):
+        for test in (test_shapes, test_held, test_parts):
+            test(tally, anna, tom)
