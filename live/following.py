@@ -8,7 +8,7 @@ import re
 import subprocess
 import sys
 import threading
-from typing import IO, Dict, List, Optional, Tuple
+from typing import IO, Callable, Dict, List, Optional, Tuple
 from urllib.parse import urlsplit
 
 from .carriers.udp import PORTS
@@ -17,9 +17,12 @@ from .options import FIRST_PORT, Options
 # the name of a session that a board goes on in
 NAME = re.compile("[A-Za-z0-9._-]{1,40}")
 
-# boards that one run begins at most, and seconds that one may take to tell its address
+# Boards that one run begins at most, together with those that these begin, and seconds that one may take to tell its address.
 MOST = 4
 PATIENCE = 30.0
+
+# The variable that hands on the two ends of a pipe: it has a byte for each board that may still be begun.
+LEFT = "WB_LIVE_BOARDS_LEFT"
 
 # so many places that ports of this machine, or a group, have for sessions beside one another: a name is at one of them
 PORT_PLACES, GROUP_PLACES = 256, 8_000
@@ -66,6 +69,17 @@ def secret(text: str) -> int:
     return reader
 
 
+def boards_left() -> Tuple[int, int]:
+    """The ends of the pipe: those of the program that began this one, or of a new one."""
+    given = re.fullmatch("([0-9]{1,6}) ([0-9]{1,6})", os.environ.get(LEFT, ""))
+    if given:
+        return int(given[1]), int(given[2])
+    reader, writer = os.pipe()
+    os.set_blocking(reader, False)
+    os.write(writer, bytes(MOST))
+    return reader, writer
+
+
 def told_address(told: IO[str]) -> Optional[str]:
     """The address that a program prints at its start; None if it ends before."""
     return next((found[1] for found in map(ADDRESS.match, told) if found), None)
@@ -74,8 +88,10 @@ def told_address(told: IO[str]) -> Optional[str]:
 class Following:
     """The boards that go on from this one, by their names."""
 
-    def __init__(self, options: Options) -> None:
+    def __init__(self, options: Options, is_full: Callable[[], bool]) -> None:
         self.options = options
+        self.is_full = is_full
+        self.left = boards_left()
         self.changed = threading.Lock()
         self.begun: Dict[str, Tuple[subprocess.Popen[str], str]] = {}
 
@@ -91,16 +107,34 @@ class Following:
         return address._replace(netloc="%s:%d" % ("[%s]" % host if ":" in host else host, address.port or 80)).geturl()
 
     def begin(self, name: str) -> Tuple[subprocess.Popen[str], str]:
-        """A program that holds the session, and the address of its page."""
-        if sum(program.poll() is None for program, _ in self.begun.values()) >= MOST:
-            raise CannotFollow("%d boards were begun already" % MOST)
+        """A program that holds the session, and the address of its page. CannotFollow while this board has room, and if too many were begun."""
+        if not self.is_full():
+            raise CannotFollow("this board has room")
+        self.give_back([each for each, (program, _) in self.begun.items() if program.poll() is not None])
+        try:
+            os.read(self.left[0], 1)
+        except BlockingIOError:
+            raise CannotFollow("%d boards were begun already" % MOST) from None
+        try:
+            return self.start(name)
+        except BaseException:
+            os.write(self.left[1], b"\0")
+            raise
+
+    def give_back(self, names: List[str]) -> None:
+        """In the place of each of these boards another may be begun."""
+        for name in names:
+            del self.begun[name]
+            os.write(self.left[1], b"\0")
+
+    def start(self, name: str) -> Tuple[subprocess.Popen[str], str]:
         options = self.options
         words = ["--session", name, *network_words(options, name), *seen_words(options)]
         secrets = [("--key", options.key or ""), ("--password-file", "%s:%s" % (options.login.name, options.login.password) if options.login else "")]
         given = [(word, secret(text)) for word, text in secrets if text]
         words += [part for word, number in given for part in (word, "/dev/fd/%d" % number)]
         program = subprocess.Popen([sys.executable, os.path.abspath(sys.argv[0]), *words], stdin=subprocess.DEVNULL, stdout=subprocess.PIPE, text=True,
-                                   pass_fds=[number for _, number in given])
+                                   pass_fds=[number for _, number in given] + list(self.left), env={**os.environ, LEFT: "%d %d" % self.left})
         for _, number in given:
             os.close(number)
         guard = threading.Timer(PATIENCE, program.kill)
@@ -118,3 +152,4 @@ class Following:
         """The boards that were begun end with this one."""
         for program, _ in self.begun.values():
             program.terminate()
+        self.give_back(list(self.begun))

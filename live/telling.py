@@ -196,8 +196,11 @@ class Telling:
         total, cells = self.member.drawn.total, self.member.board.cells
         if total >= cells - cells // RESERVE:
             self.member.alarms.warn("the board is full: %d of %d cells; deletes and restores alone have room" % (total, cells))
-        elif total * 100 >= cells * NEARLY_FULL:
+        elif self.is_nearly_full():
             self.member.alarms.warn("the board becomes full: %d of %d cells are taken" % (total, cells))
+
+    def is_nearly_full(self) -> bool:
+        return self.member.drawn.total * 100 >= self.member.board.cells * NEARLY_FULL
 
     # ---- what stands beside it
 

@@ -116,7 +116,7 @@ class Web(ThreadingHTTPServer):
         self.member = member
         self.events = events
         self.guests = guests
-        self.following = Following(options)
+        self.following = Following(options, member.telling.is_nearly_full)
         self.streams = threading.Semaphore(MOST_STREAMS)
         self.files = page_files(self.token)
 
@@ -157,11 +157,11 @@ class Handler(BaseHTTPRequestHandler):
         try:
             super().finish()
         finally:
-            self.server.connections.end(self.connection, self.has_asked)
+            self.server.connections.end(self.connection)
 
     def heard(self) -> None:
         """The whole request has come: from now on the connection is not idle."""
-        self.has_asked = self.server.connections.asked(self.connection)
+        self.has_asked = self.server.connections.asked(self.connection, self.address(), cookie_in(self.headers.get("Cookie", "")))
         if not self.has_asked:
             raise ConnectionAbortedError
 
@@ -316,6 +316,7 @@ class Handler(BaseHTTPRequestHandler):
         with ExitStack() as held:
             self.take_place(held)
             self.close_connection = True
+            self.server.connections.stream(self.connection)
             self.send_response(101)
             for name, value in (("Upgrade", "websocket"), ("Connection", "Upgrade"), ("Sec-WebSocket-Accept", acceptance(key or ""))):
                 self.send_header(name, value)

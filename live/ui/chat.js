@@ -35,7 +35,7 @@ export function showChat({ session, notes, painter }) {
     const log = $('log'), isAtEnd = log.scrollTop + log.clientHeight > log.scrollHeight - 30;
     log.replaceChildren(...said.slice(-MOST_SAID).map((/** @type {import('./notes.js').Said} */ { source, text }) => {
       const line = make('li'), name = session.called.get(source);
-      line.append(badge(painter, initialsOf(name, source), source), make('b', session.who(source)), make('span', text));
+      line.append(badge(painter, initialsOf(name, source), source), make('b', session.who(source)), Object.assign(make('span', text), { dir: 'auto' }));
       return line;
     }));
     if (isAtEnd) log.scrollTop = log.scrollHeight;

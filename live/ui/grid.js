@@ -16,7 +16,7 @@ const LEAST = 1024, TIMES = 4, LEVELS = 6;
 /** More than the tiles of a row, and those that lie beyond the page's edges. */
 const ROW = 4096, BEYOND = 16;
 
-/** If more than one item in so many is found, they are taken from the list in its order, and not put into order. */
+/** If more than one of 16 items is found, they are taken from the list in its order, and not put into order. */
 const MANY = 16;
 
 /** The places of the tiles that a box meets.

@@ -58,6 +58,10 @@ export function linesOf(item) {
   return lines;
 }
 
+/** Whether a line is written from right to left: its first letter is.
+ * @type {(line: string) => boolean} */
+export const isFromRight = (line) => /^[^\p{L}]*[\u0590-\u08ff\ufb1d-\ufdff\ufe70-\ufefc]/u.test(line);
+
 /** Whether an item is letters alone.
  * @type {(item: { kind: string }) => boolean} */
 export const isLetters = ({ kind }) => kind === 't' || kind === 'k' || kind === 'text';

@@ -1,7 +1,7 @@
 /** Paints items on a canvas, in units: what is on the sheet, what is saved as a picture, and what is not sent yet. */
 import { BRIGHT, DAY, NIGHT } from './colours.js';
 import { isClosed, isStroke } from './ink.js';
-import { LEADING, boxOfLetters, fontOf, isLetters, linesOf, standOf } from './inkfonts.js';
+import { LEADING, boxOfLetters, fontOf, isFromRight, isLetters, linesOf, standOf } from './inkfonts.js';
 import { dashesOf, piecesOf, wayOf } from './inkpaths.js';
 import { CELL_WIDE, OWN, WIDTHS } from './inksigns.js';
 
@@ -147,7 +147,10 @@ export class InkPaint {
     g.fillStyle = item.kind === 'n' ? colours.ink : isFull ? colours.paper : colour;
     g.textAlign = isMiddle ? 'center' : 'left';
     g.textBaseline = 'middle';
-    linesOf(item).forEach((line, i) => g.fillText(line, x, y + (i + 0.5) * size * LEADING));
+    linesOf(item).forEach((line, i) => {
+      g.direction = isFromRight(line) ? 'rtl' : 'ltr';
+      g.fillText(line, x, y + (i + 0.5) * size * LEADING);
+    });
     if (item.kind !== 'k') return;
     const { x0, x1, y1 } = boxOf(item);
     g.fillRect(x0, y1 - size * 0.16, x1 - x0, 5);

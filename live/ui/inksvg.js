@@ -2,7 +2,7 @@
 import { BRIGHT } from './colours.js';
 import { escaped } from './exports.js';
 import { isClosed } from './ink.js';
-import { LEADING, isLetters, linesOf, standOf } from './inkfonts.js';
+import { LEADING, isFromRight, isLetters, linesOf, standOf } from './inkfonts.js';
 import { BROAD, NOTE, THIN, TINT, boxAboutAll, inOrder } from './inkpaint.js';
 import { dashesOf, piecesOf, tenth, wayOf } from './inkpaths.js';
 import { CELL_WIDE, SIZES, WIDTHS } from './inksigns.js';
@@ -20,7 +20,7 @@ const FONTS = ['', ' font-family="monospace"', ' font-style="italic" font-family
 function letters(item, colour) {
   const { font, size, x, y, isMiddle } = standOf(item);
   return linesOf(item).map((line, i) => `<text x="${x}" y="${Math.round(y + (i + 0.5) * size * LEADING)}" font-size="${size}" dominant-baseline="central" `
-    + `text-anchor="${isMiddle ? 'middle' : 'start'}"${FONTS[font]} fill="${colour}" stroke="none" xml:space="preserve">${escaped(line)}</text>`).join('');
+    + `text-anchor="${isMiddle ? 'middle' : isFromRight(line) ? 'end' : 'start'}"${isFromRight(line) ? ' direction="rtl"' : ''}${FONTS[font]} fill="${colour}" stroke="none" xml:space="preserve">${escaped(line)}</text>`).join('');
 }
 
 /** A stroke with pressure: each piece has its width.

@@ -196,12 +196,13 @@ export class Whiteboard {
     this.hand.change([], drawops);
   }
 
-  /** A double click edits the letters under it.
+  /** A double click edits the letters under it, and opens a link.
    * @param {MouseEvent} event */
   edit(event) {
     if (!this.painter.isInk || event.target instanceof HTMLTextAreaElement || !['select', 'text'].includes(this.hand.tool)) return;
     const item = this.ink.grid.itemAt(this.view.pointAt(event), reachOf(this.view));
     if (item && ['t', 'n', 'r', 'o', 'd'].includes(item.kind)) this.typing.edit(item);
+    if (item?.kind === 'k') open(item.letters, '_blank', 'noopener,noreferrer');
   }
 
   /** Has the buttons, the keys and the system's wishes heard. */

@@ -17,7 +17,7 @@ from .. import clauses, refusals
 
 TOP = Path(__file__).resolve().parents[2]
 EDITS = sorted(TOP.glob("crates/*/must-fail/*.edit"))
-MOST = 171
+MOST = 174
 REFUSED = "refused, as it must be"
 
 

@@ -151,7 +151,10 @@ class Kept:
         self.begin(now)
         near = [drawop.time for drawop in self.host.held.values() if drawop.name.page == page and drawop.time < time + AHEAD]
         later = min(max([time, *(other + 1 for other in near)]), 2**64 - 1)
-        printed = self.host.say(Drawop(Name(self.host.me, page, number), later, operation, told))
+        name = Name(self.host.me, page, number)
+        if self.host.timers_of(name).ask is not None:
+            self.repay()
+        printed = self.host.say(Drawop(name, later, operation, told))
         batch = printed if printed.startswith("batch") else ""
         self.sent.append(printed.removeprefix(batch))
         if self.is_full():
@@ -242,7 +245,7 @@ class Kept:
             self.end()
             return
         if was_asked:
-            self.owed = max(0, self.owed - 2 * COST)
+            self.repay()
             self.gap = SHORTEST_GAP
         top = dict(self.host.highest(name.page))[name.source]
         around = [number for far in range(1, REACH + 1) for number in (name.seq + far, name.seq - far)]
@@ -265,19 +268,26 @@ class Kept:
     def asked(self) -> list[Name]:
         return sorted(name for name, timers in self.host.timers.items() if timers.ask)
 
+    def repay(self) -> None:
+        """What was asked for and came or was drawn pays for two."""
+        self.owed = max(0, self.owed - 2 * COST)
+
     def want(self, name: Name, anew: bool) -> bool:
         """Asks for a name where it may. Whether it does."""
-        ask, now = self.host.timers_of(name).ask, self.host.now
-        goes_on = ask is not None and not (anew and ask.level >= OLD)
-        owed = max(self.owed, now)
+        owed = max(self.owed, self.host.now)
+        ahead, asked = owed - self.host.now, self.asked()
         places = NAMES if anew or self.host.delay(name.source) != UNKNOWN_DELAY else STRANGERS
-        if name in self.host.held or self.is_full() or goes_on or owed - now > (places - 1) * COST:
+        if name in self.host.held or self.is_full() or ahead > (places - 1) * COST:
             return False
-        if ask is not None:
+        # One old timer may give way to another, or start anew, if less is owed than stands asked.
+        is_covered = ahead <= (len(asked) - 1) * COST
+        if name in asked:
+            if not (anew and self.level(name) >= OLD and is_covered):
+                return False
             self.host.stop(name)
-        elif self.asked():
-            oldest = min(self.asked(), key=lambda other: (-self.level(other), other))
-            if len(self.asked()) >= NAMES or self.level(oldest) >= OLD:
+        elif asked:
+            oldest = min(asked, key=lambda other: (-self.level(other), other))
+            if len(asked) >= NAMES or (self.level(oldest) >= OLD and is_covered):
                 self.host.stop(oldest)
         with self.lent(name.source):
             self.host.ask(name)

@@ -14,7 +14,7 @@ from . import datagrams
 from .conversations import first_difference, parted
 from .datagrams import Echo, Mark, Page, Words, drawn, drawop, session
 from .model import Drawop, Name
-from .policy import AskPages, Datagram, Kept, Message, Refused, Request, State, digits_of
+from .policy import COST, AskPages, Datagram, Kept, Message, Refused, Request, State, digits_of
 from .program import Dialog, host
 from .sessions import ME, MEMBERS, Session
 
@@ -547,6 +547,8 @@ class KeptSession(Session):
             line, block = self.random.choice(self.lines)()
             given += f"{line}\n"
             printed += block
+            owed = self.kept.owed - self.kept.host.now
+            assert self.kept.is_full() or owed <= len(self.kept.asked()) * COST, f"no more is owed than stands asked, after {line}"
         return given, printed
 
 
@@ -652,6 +654,24 @@ def test_credit() -> None:
     said = host(f"board {ME} 1000 1 {SEED}\nkeep 4000 0\n{told}came 50 {dot(100, (7, 2), 1)}\n{others}tick 90000\n").splitlines()
     names = [f"send {datagrams.request(ME, source, (7, 3), 1)}" for source in range(200, 210)]
     assert [name for name in names if name in said] == names[:2], "what came pays for two names"
+    own = f"came 50 {session(9, 50, (7, 2), [(source, 1) for source in (ME, *range(100, 163))], [])}\nadd 50 5 7/2 line 0 0 1 1 *\n"
+    said = host(f"board {ME} 1000 1 {SEED}\nkeep 4000 0\n{own}{others}tick 90000\n").splitlines()
+    assert [name for name in names if name in said] == names[:2], "what is drawn and was asked for pays for two names"
+
+
+def test_owed() -> None:
+    """An old timer starts anew once less is owed than stands asked: that of a single name once it is paid for, a quarter of a second later."""
+    wanted = f"send {datagrams.request(ME, 9, PAGE, 1)}"
+    for moment in 249_999, 250_000:
+        dialog = Dialog()
+        for line in f"board {ME} 100 1 {SEED + 1}", "keep 1 0", "tuning 1 1 1 1", f"came 0 {session(9, 0, PAGE, [(9, 1)], [(ME, 0, 0)])}":
+            block = dialog.ask(line)
+        while (due := int(block.splitlines()[-1].removeprefix("ok "))) < 240_000:
+            block = dialog.ask(f"tick {due}")
+        dialog.ask(f"came {moment} {session(9, 1, PAGE, [(9, 1)], [])}")
+        block = dialog.ask("tick 280000")
+        dialog.end()
+        assert (wanted in block.splitlines()) == (moment == 250_000), f"it is asked for anew at {moment}"
 
 
 def test_holes() -> None:

@@ -5,12 +5,12 @@ import http.client
 import json
 import time
 from types import SimpleNamespace
-from typing import Any, Dict, List, Sequence, Tuple
+from typing import Any, Dict, List, Sequence, Set, Tuple
 from urllib.parse import urlsplit
 
 import pytest
 
-from live.following import MOST, CannotFollow, Following, network_words, place_of, seen_words
+from live.following import LEFT, MOST, CannotFollow, Following, network_words, place_of, seen_words
 from live.keys import write_key
 from live.options import read_options
 
@@ -21,6 +21,10 @@ from .test_networks import can_join, free_ports
 from .test_requests import status_of
 
 FIRST_PORT = 27_520
+
+# a board that is to be full soon, at both
+CELLS = 8
+FULL_SOON = ["--cells", "%d" % CELLS, "--speed", "10"]
 GROUP = "239.255.42.98"
 PAGE = "1/1"
 
@@ -51,7 +55,7 @@ def test_words(facts: Facts) -> None:
 
 def test_ended(facts: Facts) -> None:
     """The page of a board that runs is shown again, and one that ended is begun anew, on the machine that a browser names."""
-    following, begun = Following(read_options([])), []  # type: Following, List[str]
+    following, begun = Following(read_options([]), lambda: True), []  # type: Following, List[str]
     statuses: List[Any] = []
 
     def begin(name: str) -> Any:
@@ -72,6 +76,33 @@ def test_ended(facts: Facts) -> None:
             facts("no name: " + name[:9], begun, ["b", "b"])
 
 
+def test_tree(facts: Facts, monkeypatch: pytest.MonkeyPatch) -> None:
+    """What one start begins, and what that begins, has one bound; what was not begun, and what has ended, does not count."""
+    def following(full: bool = True) -> Following:
+        made = Following(read_options([]), lambda: full)
+        monkeypatch.setenv(LEFT, "%d %d" % made.left)
+        return made
+
+    def begin(by: Following, name: str) -> str:
+        by.start = lambda name: (SimpleNamespace(poll=lambda: None if name in running else 0, terminate=lambda: None), "http://a:1/")  # type: ignore
+        try:
+            running.add(name)
+            return by.go_on(name, "a")
+        except CannotFollow as fault:
+            return str(fault)
+
+    running: Set[str] = set()
+    first, second = following(), following()
+    facts("so many are begun", [begin((first, second)[n % 2], "b%d" % n) for n in range(MOST)], ["http://a:1/"] * MOST)
+    facts("and no more by any of them", [begin(each, "c") for each in (first, second, following())], ["%d boards were begun already" % MOST] * 3)
+    facts("what runs is shown", begin(first, "b0"), "http://a:1/")
+    running.remove("b0")
+    facts("in the place of one that ended another is begun", [begin(first, "d"), begin(first, "e")], ["http://a:1/", "%d boards were begun already" % MOST])
+    second.end()
+    facts("and of those that end with another", [begin(first, "f"), begin(first, "g"), begin(first, "h")[:1]], ["http://a:1/", "http://a:1/", "%d" % MOST])
+    facts("none is begun while there is room", begin(following(False), "i"), "this board has room")
+
+
 def ask(address: str, name: str, body: Dict[str, Any]) -> Tuple[int, Dict[str, Any]]:
     """Asks the page at an address, as it asks itself."""
     at = urlsplit(address)
@@ -86,6 +117,11 @@ def board_of(address: str) -> Any:
     connection = http.client.HTTPConnection(at.hostname or "", at.port, timeout=PATIENCE)
     connection.request("GET", at.path + "board?page=" + PAGE, headers={"X-Wb-Token": at.path.strip("/")})
     return json.loads(connection.getresponse().read())
+
+
+def full(states: Dict[str, Any]) -> bool:
+    """Whether it is told that a board has no room."""
+    return any("is full" in text for text in states["health"]["warnings"])
 
 
 def is_gone(address: str) -> bool:
@@ -103,6 +139,10 @@ def is_gone(address: str) -> bool:
 def check_next(facts: Facts, network: str, one: Process, other: Process) -> str:
     """Two members of one session of a network go on in the same next one. Gives the address of its page at the first."""
     name = "after-%d" % one.me
+    facts("while a board has room nobody begins another, %s" % network, one.post("/next", {"session": name})[1].get("fault"), "this board has room")
+    for row in range(CELLS):
+        one.draw("0/0", "line 0 %d 4 %d x" % (row, row))
+    facts("both are full, %s" % network, [each.wait_for(full) for each in (one, other)], [True, True])
     status, told = one.post("/next", {"session": name})
     facts("the next board is begun, %s" % network, (status, told.get("ok")), (200, True))
     address = told["address"]
@@ -120,7 +160,8 @@ def check_next(facts: Facts, network: str, one: Process, other: Process) -> str:
 
 
 def check_bounds(facts: Facts, one: Process, address: str) -> None:
-    """A member has begun a next board, and begins no more than some; they end with it."""
+    """A member has begun a next board, and begins no more than some, together with those that these begin; they end with it."""
+    facts("a next board has room", ask(address, "next", {"session": "deep"})[1].get("fault"), "this board has room")
     for number in range(MOST - 1):
         facts("some more", one.post("/next", {"session": "more-%d-%d" % (one.me, number)})[0], 200)
     facts("but not any number of them", one.post("/next", {"session": "most"})[0], 422)
@@ -139,7 +180,7 @@ def check_requests(facts: Facts, one: Process) -> None:
 
 def go_on(facts: Facts, network: str, words: Sequence[Sequence[str]]) -> None:
     """The same by two members of another network, by the words of each."""
-    one, other = (Process(list(each)) for each in words)
+    one, other = (Process([*each, *FULL_SOON]) for each in words)
     try:
         check_next(facts, network, one, other)
     finally:
@@ -162,7 +203,7 @@ def check_broker(facts: Facts, room: BrokerFiles) -> None:
 
 
 def test_boards(facts: Facts) -> None:
-    one, other = (Process(["--ports", str(FIRST_PORT)]) for _ in range(2))
+    one, other = (Process(["--ports", str(FIRST_PORT), *FULL_SOON]) for _ in range(2))
     try:
         check_requests(facts, one)
         check_bounds(facts, one, check_next(facts, "on this machine", one, other))

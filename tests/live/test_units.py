@@ -368,17 +368,41 @@ def test_pace(facts: Facts, monkeypatch: pytest.MonkeyPatch) -> None:
 
 
 def test_connections(facts: Facts, monkeypatch: pytest.MonkeyPatch) -> None:
-    """If there is no room, the oldest that has not asked yet goes; whoever has asked stays."""
+    """If there is no room, the oldest that has not asked yet goes; if all have, the oldest of an address that has most; a stream stays."""
     monkeypatch.setattr(connections, "MOST_CONNECTIONS", 2)
     all_, pairs = connections.Connections(), [socket.socketpair() for _ in range(4)]
     one, two, three, four = (pair[0] for pair in pairs)
     pairs[0][1].settimeout(PATIENCE)
-    facts("two have room, and for a third the first goes", ([all_.admit(each) for each in (one, two, three)], all_.count, list(all_.idle)), ([True] * 3, 2, [two, three]))
+    facts("two have room, and for a third the first goes", ([all_.admit(each) for each in (one, two, three)], all_.count(), list(all_.idle)), ([True] * 3, 2, [two, three]))
     facts("its connection is at its end", pairs[0][1].recv(1), b"")
     facts("the first can't ask any more, and the others can", [all_.asked(each) for each in (one, two, three)], [False, True, True])
-    facts("beside two that have asked there is no room", (all_.admit(four), all_.count), (False, 2))
-    all_.end(two, True)
-    facts("and then there is", (all_.admit(four), all_.count), (True, 2))
+    for each in (two, three):
+        all_.stream(each)
+    facts("beside two streams there is no room", (all_.admit(four), all_.count()), (False, 2))
+    all_.end(two)
+    facts("and then there is", (all_.admit(four), all_.count()), (True, 2))
+    for each in (end for pair in pairs for end in pair):
+        each.close()
+
+
+def test_unread(facts: Facts, monkeypatch: pytest.MonkeyPatch) -> None:
+    """Who asks again and again, and reads nothing, holds nobody up."""
+    monkeypatch.setattr(connections, "MOST_CONNECTIONS", 12)
+    all_, pairs = connections.Connections(), [socket.socketpair() for _ in range(24)]
+    here = iter([pair[0] for pair in pairs])
+
+    def ask(address: str, cookie: str) -> socket.socket:
+        made = next(here)
+        facts("there is room", (all_.admit(made), all_.asked(made, address, cookie)), (True, True))
+        return made
+
+    honest = ask("b", "b")
+    greedy = [ask("a", "a") for _ in range(10)]
+    facts("of one browser eight are answered", list(all_.answered), [honest, *greedy[2:]])
+    more = [ask("a", "") for _ in range(6)]
+    facts("beside others those of the address that has most go, the oldest first", list(all_.answered), [honest, *greedy[5:], *more])
+    all_.rest(greedy[0])
+    facts("who was dropped does not come back", (all_.asked(greedy[0]), all_.count()), (False, 12))
     for each in (end for pair in pairs for end in pair):
         each.close()
 

@@ -2,6 +2,7 @@
 from __future__ import annotations
 
 import json
+import time
 from collections.abc import Callable
 from pathlib import Path
 
@@ -151,7 +152,10 @@ def test_call(tally: Tally, anna: Sheet, tom: Sheet) -> None:
     tally.check("another calls", anna.page.wait(FRAME))
     sees(tally, "to what that one has in view", tom, anna)
     tom.press(OTHERS_FACE)
-    tally.check("who is followed by whom one follows can't be followed", tom.page.wait(f"!({FRAME})", PATIENCE))
+    end = time.monotonic() + PATIENCE
+    while (both := anna.page.value(FRAME) and tom.page.value(FRAME)) and time.monotonic() < end:
+        time.sleep(0.05)
+    tally.check("no two follow each other", not both)
 
 
 def hold(tally: Tally, browser: Browser, room: Path, ports: int) -> None:

@@ -15,6 +15,9 @@ from .writing import Point
 # of each item its kind, its flag, and how many points it has
 FORMS = "JSON.stringify(wb.ink.items.map(({ kind, flag, points }) => kind === 's' ? [kind, 1 + points.filter(({ up }) => up).length] : [kind, flag, points.length]))"
 
+# a sentence from right to left, which ends with two letters that are broad, and full stops
+ARABIC = "\u0633\u0644\u0627\u0645..."
+
 # seconds after which a pen that rests holds its stroke straight
 HELD = 0.6
 
@@ -88,7 +91,37 @@ def test_parts(tally: Tally, anna: Sheet, tom: Sheet) -> None:
     tally.check("else it takes all", both(anna, tom, []))
 
 
+def test_letters(tally: Tally, anna: Sheet, tom: Sheet) -> None:
+    """A link opens by a double click; what is written from right to left stands so, its full stop at the left."""
+    for text, y in (("https://example.org/a", 200), (ARABIC, 300)):
+        anna.keys("t")
+        anna.page.click(*at(anna, (200, y))[0])
+        anna.page.until("document.activeElement === wb.typing.box")
+        anna.page.call("Input.insertText", text=text)
+        anna.page.key("Enter")
+    tally.check("a link and letters", both(anna, tom, [["k", 0, 1], ["t", 0, 1]]), anna.page.value(FORMS))
+    tom.page.value("window.open = (...words) => { window.opened = words.join(' '); }; 0")
+    tom.keys("v")
+    (x, y), = at(tom, (230, 200))
+    for count in (1, 2):
+        for kind in ("mousePressed", "mouseReleased"):
+            tom.page.call("Input.dispatchMouseEvent", type=kind, x=x, y=y, button="left", buttons=1, clickCount=count)
+    tally.check("a double click opens the link, which learns nothing of the board", tom.page.wait("window.opened === 'https://example.org/a _blank noopener,noreferrer'"))
+    dark = tom.page.value("""(() => {
+        const canvas = document.createElement('canvas'), item = wb.ink.items.find(({ kind }) => kind === 't'), width = 900;
+        const brush = wb.files.sheetOf(canvas, width, 200);
+        brush.translate(20 - item.points[0].x, 20 - item.points[0].y);
+        wb.ink.paints.paint(brush, item, { wide: 64 });
+        const { data } = brush.getImageData(0, 0, width, 200), rows = Array(width).fill(0);
+        for (let i = 0; i < data.length; i += 4) if (data[i] < 128) rows[(i / 4) % width] += 1;
+        const [first, last] = [rows.findIndex(Boolean), rows.findLastIndex(Boolean)];
+        return [first, last, rows.slice(first, first + 12).reduce((a, b) => a + b), rows.slice(last - 11, last + 1).reduce((a, b) => a + b)];
+    })()""")
+    tally.check("the full stop of a line from right to left is at its left end", dark[2] * 2 < dark[3], str(dark))
+    tally.check("on paper too", tom.page.value("/text-anchor=.end. direction=.rtl./.test(wb.files.svg(wb.session.board))") is True)
+
+
 def test_forms(tally: Tally, browser: Browser, room: Path, ports: int) -> None:
     with class_of(browser, room, ports, [("Anna", 0.0), ("Tom", LOSSY)]) as (anna, tom):
-        for test in (test_shapes, test_held, test_parts):
+        for test in (test_shapes, test_held, test_parts, test_letters):
             test(tally, anna, tom)

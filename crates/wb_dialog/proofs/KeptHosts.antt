@@ -1,5 +1,5 @@
 -- The lines of a policy are lines that a driver may hand in: it says only what is its own, and time goes on first.
-use Rattle.std.proofs.Common.{◌≡◌, ◌≤◌, ◌∙◌, ℕ, Bool, true, false, cond, List, [], ◌∷◌, ◌++◌, None, Some, ap, append-nil, arith, map, refl, subst, sym}
+use Rattle.std.proofs.Common.{◌≡◌, ◌≤◌, ◌∙◌, ℕ, Bool, true, false, cond, List, [], ◌∷◌, ◌++◌, None, Some, ap, append-nil, arith, map, refl, subst, sym, length}
 use Rattle.std.specs.Prelude.{nat_eq, nat_le, take}
 use Rattle.std.proofs.lemmas.Bool.Decides.{nat_tests}
 use Rattle.wb_names.specs.Arrivals.{Outcome, New, Again, Clash, Left}
@@ -18,7 +18,7 @@ use Rattle.wb_policy.specs.Policy.{Policy, after_wanting}
 use Rattle.wb_policy.specs.Reports.{slice_after}
 use Rattle.wb_policy.specs.Wanting.{is_wanted}
 use Rattle.wb_keeping.specs.Calls.{Added, Came, KeptLine, Ticked, Tuned, doing_of, fault_of}
-use Rattle.wb_keeping.specs.Kept.{Doing, Line, Arrives, Says, drawing, ends_full, hears, state_of, still, timed, want, Calls}
+use Rattle.wb_keeping.specs.Kept.{Doing, Line, Arrives, Says, drawing, ends_full, hears, state_of, still, timed, want, Calls, drew}
 use Rattle.wb_keeping.specs.Performing.{Keeping, after_doing, after_line, after_lines, after_saying, said, said_where, sees, sent_by_line, view_of}
 use Rattle.wb_keeping.specs.Views.{View, holds, is_full, is_known, level}
 use Rattle.wb_keeping.proofs.EachLine.{DoesEach, Each, OfPolicy, ends_each, hears_each, then_each, timed_each, wanted_each}
@@ -115,7 +115,7 @@ one_line : (line : Line) (k : Keeping) (p : Policy) → MayDrive line k.host →
 one_line line k p drives = record { at = refl; drive = (drives, tt) }
 
 wants_go : (name : NameValue) (anew : Bool) (k : Keeping) → MayGo k (want name anew (sees k.host) k.policy).lines (after_doing (want name anew) k)
-wants_go name anew k = by (is_wanted (holds v name) (is_full v) anew (is_known v name.source) (level v name) k.policy.owed v.now) where
+wants_go name anew k = by (is_wanted (holds v name) (is_full v) anew (is_known v name.source) (level v name) (length v.asked) k.policy.owed v.now) where
   v : View
   v = view_of k.host
 
@@ -145,7 +145,7 @@ steps_go = record {
     reports = λ page until told k is. record { at = refl; drive = (λ own. says_drives (datagrams.Session k.host.is.number (present k.host) page (slice_after told (report_of k.host.is.held page)) (last_heard (view_of k.host).echoes)) k.host refl, tt) };
   };
   ticks = λ now k later. one_line (Calls (calls.Tick now)) k k.policy (λ own. tick_drives now k.host later);
-  arrives = λ d k. one_line (Arrives d) k k.policy (λ own. (refl, refl));
+  arrives = λ d k free. one_line (Arrives d) k k.policy (λ own. (refl, refl));
   answered = λ d k lacks asked. one_line (Arrives d) k _ (λ own. (refl, refl));
   hears = λ v k. one_line (Calls (calls.Hear v)) k k.policy (λ own. hears_drives v k.host);
   stops = λ name k full. one_line (Calls (calls.Stop name)) k k.policy (λ own. (refl, refl));
@@ -153,7 +153,8 @@ steps_go = record {
   lends = λ source k. one_line (Calls (calls.SetDelay source k.policy.usual)) k k.policy (λ own. (refl, refl));
   takes_back = λ source k. one_line (Calls (calls.SetDelay source UNKNOWN_DELAY)) k k.policy (λ own. (refl, refl));
   tunes = λ constants k within. one_line (Calls (calls.Tune constants)) k k.policy (λ own. (refl, refl));
-  draws = λ d k. one_line (Says (datagrams.Draw d)) k k.policy (λ own. says_drives (datagrams.Draw d) k.host own);
+  draws = λ d k unasked. one_line (Says (datagrams.Draw d)) k k.policy (λ own. says_drives (datagrams.Draw d) k.host own);
+  drawn = λ d k asked. one_line (Says (datagrams.Draw d)) k _ (λ own. says_drives (datagrams.Draw d) k.host own);
   measured = λ micros k. rests k _;
   told = λ k. rests k _;
   takes_up = λ k is. rests k _;
@@ -183,7 +184,7 @@ lines_own (Ticked now) k = (tt, timed_owns k.host.is.number (λ lines. sees k.ho
 lines_own (Added now page time op) k =
     let n : ℕ = k.host.is.number in
     let d : DrawopValue = drawing (sees k.host (Calls (calls.Tick now) ∷ [])) page time op in
-    (tt, (refl, then_each (IsOwn n) ends_full timed (ends_each (IsOwn n) (policy_owns n)) (timed_owns n) (λ lines. sees k.host (Calls (calls.Tick now) ∷ Says (datagrams.Draw d) ∷ lines)) k.policy))
+    (tt, (refl, then_each (IsOwn n) ends_full timed (ends_each (IsOwn n) (policy_owns n)) (timed_owns n) (λ lines. sees k.host (Calls (calls.Tick now) ∷ Says (datagrams.Draw d) ∷ lines)) (drew d (sees k.host (Calls (calls.Tick now) ∷ [])) k.policy)))
 lines_own (Tuned constants) k = (tt, tt)
 
 goes : (line : KeptLine) (k : Keeping) → fault_of line k ≡ None → IsDrivenBy (doing_of line (sees k.host) k.policy).lines k.host

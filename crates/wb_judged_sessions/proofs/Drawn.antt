@@ -10,7 +10,7 @@ use Rattle.wb_codec.specs.declared.datagram.Datagram.{Datagram}
 use Rattle.wb_codec.specs.declared.datagram.Datagram.TheVariants.{Draw}
 use Rattle.wb_member.specs.Opened.{Opened, becomes, present, ticked}
 use Rattle.wb_member.specs.declared.calls.Call.TheVariants as calls
-use Rattle.wb_keeping.specs.Kept.{Line, Says, adds, and_then, drawing, ends_full, timed, Calls, ticks_at}
+use Rattle.wb_keeping.specs.Kept.{Line, Says, adds, and_then, drawing, ends_full, timed, Calls, ticks_at, drew}
 use Rattle.wb_keeping.specs.Laws.{KeptLine, Added, Came, Ticked, Tuned, doing_of}
 use Rattle.wb_keeping.specs.Performing.{Keeping, after_line, sees, view_of}
 use Rattle.wb_keeping.proofs.EachLine.{Each, each_both, ends_each, then_each}
@@ -122,11 +122,11 @@ module _ (now : ℕ) (page : PageId) (told : ℕ) (op : Op) (k : Keeping) where
   its = drawing (view_of (ticked now k.host)) page told op
 
   abbrev more : List Line
-  more = (and_then ends_full timed (λ (lines : List Line). sees k.host (Calls (calls.Tick now) ∷ (Says (Draw its) ∷ lines))) k.policy).lines
+  more = (and_then ends_full timed (λ (lines : List Line). sees k.host (Calls (calls.Tick now) ∷ (Says (Draw its) ∷ lines))) (drew its (view_of (ticked now k.host)) k.policy)).lines
 
   more_given : (comes : DrawopValue → Type 0) → Each (IsGiven comes) more
   more_given comes =
-      then_each (IsGiven comes) ends_full timed (ends_each (IsGiven comes) (of_policy comes)) (timed_given comes) (λ (lines : List Line). sees k.host (Calls (calls.Tick now) ∷ (Says (Draw its) ∷ lines))) k.policy
+      then_each (IsGiven comes) ends_full timed (ends_each (IsGiven comes) (of_policy comes)) (timed_given comes) (λ (lines : List Line). sees k.host (Calls (calls.Tick now) ∷ (Says (Draw its) ∷ lines))) (drew its (view_of (ticked now k.host)) k.policy)
 
   pub held_added : (after_kept_line (Added now page told op) k).host.is.held ≡ history_with k.host.is.held its (becomes its (ticked now k.host))
   unfolding after_kept_line

@@ -34,7 +34,7 @@ use Rattle.wb_member.specs.Random.{words_of}
 use Rattle.wb_member.specs.declared.calls.Call.TheVariants.{Tick, Hear, Tune}
 use Rattle.wb_laws_machines.proofs.Names.{at_most_highest}
 use Rattle.wb_laws_sessions.proofs.Sending.{one_of}
-use Rattle.wb_keeping.specs.Kept.{Arrives, Calls, Line, Says, drawing, ends_full, hears, timed}
+use Rattle.wb_keeping.specs.Kept.{Arrives, Calls, Line, Says, drawing, ends_full, hears, timed, drew}
 use Rattle.wb_keeping.specs.Laws.{Added, Came, KeptLine, Ticked, doing_of}
 use Rattle.wb_keeping.specs.Performing.{Keeping, after_doing, after_line, after_lines, sees, sent_by_doing, sent_by_line, sent_by_lines, view_of}
 use Rattle.wb_keeping.proofs.EachLine.{Each, OfPolicy, ends_each, hears_each, then_each, timed_each}
@@ -240,7 +240,7 @@ module _ (d : DrawopValue) (a : AnswerTimer) where
   pub added_goes : (now : ℕ) (page : PageId) (time : ℕ) (op : Op) (k : Keeping) → IsHistory k.host.is.held → Answers k.host → Goes now (Added now page time op) k
   added_goes now page time op k once is =
       lines_go now (doing_of (Added now page time op) (sees k.host) k.policy).lines _ k.host refl
-      (λ lt. (drawn_other host page time op is.held, then_each IsSafe ends_full timed (ends_each IsSafe safe_lines) (timed_each IsSafe safe_lines) (sees drawn) k.policy))
+      (λ lt. (drawn_other host page time op is.held, then_each IsSafe ends_full timed (ends_each IsSafe safe_lines) (timed_each IsSafe safe_lines) (sees drawn) (drew (drawing (view_of host) page time op) (view_of host) k.policy)))
       once is where
         host : Opened
         host = after_line (Calls (Tick now)) k.host

@@ -1,5 +1,5 @@
 -- A member's next report is due within 96 seconds, and stays due until it is sent.
-use Rattle.std.proofs.Common.{◌≡◌, ◌⊎◌, ℕ, ◌+◌, ◌≤◌, Bool, true, false, cond, List, [], ◌∷◌, ◌++◌, ◌∙◌, None, ap, arith, inl, inr, map, refl, sym, true≢false}
+use Rattle.std.proofs.Common.{◌≡◌, ◌⊎◌, ℕ, ◌+◌, ◌≤◌, Bool, true, false, cond, List, [], ◌∷◌, ◌++◌, ◌∙◌, None, ap, arith, inl, inr, map, refl, sym, true≢false, length}
 use Rattle.std.specs.Prelude.{◌||◌, ◌%◌, Contains, take}
 use Rattle.std.specs.List.{list_any}
 use Rattle.std.proofs.lemmas.List.Elements.{Contains-append_left, Contains-append_right}
@@ -70,7 +70,7 @@ hears_goes v k = by (has_room_for v k.host) where
 wants_goes : (name : NameValue) (anew : Bool) (k : Keeping) → GoesOn k (want name anew (sees k.host) k.policy).lines (after_doing (want name anew) k)
 wants_goes name anew k =
     goes_on k (after_doing (want name anew) k) _ (does_rest (want name anew) (want_each IsSmall are_small name anew) k).now
-    (by (is_wanted (holds v name) (is_full v) anew (is_known v name.source) (level v name) k.policy.owed v.now)) where
+    (by (is_wanted (holds v name) (is_full v) anew (is_known v name.source) (level v name) (length v.asked) k.policy.owed v.now)) where
       v : View
       v = view_of k.host
 
@@ -96,7 +96,7 @@ steps_go_on = record {
     reports = λ page until told k is. record { later = le_refl (present k.host); due = inr (refl, next_soon (present k.host) _ (word_of k.policy.words)) };
   };
   ticks = λ now k later. record { later = later; due = inl refl };
-  arrives = λ d k. record { later = le_refl (present k.host); due = inl refl };
+  arrives = λ d k free. record { later = le_refl (present k.host); due = inl refl };
   answered = λ d k lacks asked. record { later = le_refl (present k.host); due = inl refl };
   hears = hears_goes;
   stops = λ name k full. record { later = le_refl (present k.host); due = inl refl };
@@ -104,7 +104,8 @@ steps_go_on = record {
   lends = λ source k. record { later = le_refl (present k.host); due = inl refl };
   takes_back = λ source k. record { later = le_refl (present k.host); due = inl refl };
   tunes = λ constants k within. record { later = le_refl (present k.host); due = inl refl };
-  draws = λ d k. record { later = le_refl (present k.host); due = inl refl };
+  draws = λ d k unasked. record { later = le_refl (present k.host); due = inl refl };
+  drawn = λ d k asked. record { later = le_refl (present k.host); due = inl refl };
   measured = λ micros k. record { later = le_refl (present k.host); due = inl refl };
   told = λ k. record { later = le_refl (present k.host); due = inl refl };
   takes_up = λ k is. record { later = le_refl (present k.host); due = inl refl };

@@ -1,5 +1,5 @@
 -- What lines send: what they say, and by themselves drawops, and requests and page states under the number of their member.
-use Rattle.std.proofs.Common.{◌≡◌, ℕ, Bool, true, false, cond, List, [], ◌∷◌, Option, Some, None, subst, sym, ⊎_elim}
+use Rattle.std.proofs.Common.{◌≡◌, ℕ, Bool, true, false, cond, List, [], ◌∷◌, Option, Some, None, subst, sym, ⊎_elim, length}
 use Rattle.std.specs.Prelude.{Contains}
 use Rattle.std.specs.Option.{option_map}
 use Rattle.std.proofs.lemmas.List.Elements.{Contains-append_cases}
@@ -40,7 +40,7 @@ SaysOnly P (Calls call) = IsOfPolicy call
 
 -- the lines for a name that is wanted say nothing
 pub want_says : (P : Datagram → Type 0) (name : NameValue) (anew : Bool) (see : List Line → View) (p : Policy) → Each (SaysOnly P) (want name anew see p).lines
-want_says P name anew see p = by (is_wanted (holds v name) (is_full v) anew (is_known v name.source) (level v name) p.owed v.now) where
+want_says P name anew see p = by (is_wanted (holds v name) (is_full v) anew (is_known v name.source) (level v name) (length v.asked) p.owed v.now) where
   v : View
   v = see []
 

@@ -1,5 +1,5 @@
 -- Reports of a member are a second apart.
-use Rattle.std.proofs.Common.{◌≡◌, ◌∙◌, ◌≤◌, ◌<◌, ◌+◌, ◌*◌, ℕ, zero, suc, Bool, true, false, cond, List, [], ◌∷◌, ◌++◌, None, ap, arith, eqb-true, map, refl, subst, sym, ⊎_elim}
+use Rattle.std.proofs.Common.{◌≡◌, ◌∙◌, ◌≤◌, ◌<◌, ◌+◌, ◌*◌, ℕ, zero, suc, Bool, true, false, cond, List, [], ◌∷◌, ◌++◌, None, ap, arith, eqb-true, map, refl, subst, sym, ⊎_elim, length}
 use Rattle.std.specs.Prelude.{Contains, nat_eq, nat_le, take}
 use Rattle.std.proofs.lemmas.Bool.{leb-true}
 use Rattle.std.proofs.lemmas.List.Elements.{Contains-append_cases}
@@ -132,7 +132,7 @@ hears_space v k = quietly k _ (Calls (Hear v) ∷ []) (tt, tt) refl (at_once _ _
 wants_space : (name : NameValue) (anew : Bool) (k : Keeping) → Spaces k (want name anew (sees k.host) k.policy).lines (after_doing (want name anew) k)
 wants_space name anew k =
     quietly k (after_doing (want name anew) k) _ (want_says IsNoReport name anew (sees k.host) k.policy) refl (at_once _ _ (does_rest (want name anew) (want_each IsSmall are_small name anew) k).now)
-    (by (is_wanted (holds v name) (is_full v) anew (is_known v name.source) (level v name) k.policy.owed v.now)) where
+    (by (is_wanted (holds v name) (is_full v) anew (is_known v name.source) (level v name) (length v.asked) k.policy.owed v.now)) where
       v : View
       v = view_of k.host
 
@@ -186,7 +186,7 @@ steps_space = record {
     reports = λ page until told k is. reports_space page until (slice_after told (report_of k.host.is.held page)) k is;
   };
   ticks = λ now k later. quietly k _ (Calls (Tick now) ∷ []) (tt, tt) refl later refl;
-  arrives = λ d k. space k _ _ tt refl refl refl;
+  arrives = λ d k free. space k _ _ tt refl refl refl;
   answered = λ d k lacks asked. space k _ _ tt refl refl refl;
   hears = hears_space;
   stops = λ name k full. space k _ _ tt refl refl refl;
@@ -194,7 +194,8 @@ steps_space = record {
   lends = λ source k. space k _ _ tt refl refl refl;
   takes_back = λ source k. space k _ _ tt refl refl refl;
   tunes = λ constants k within. space k _ _ tt refl refl refl;
-  draws = λ d k. space k _ _ tt refl refl refl;
+  draws = λ d k unasked. space k _ _ tt refl refl refl;
+  drawn = λ d k asked. space k _ _ tt refl refl refl;
   measured = λ micros k. nothing k _ refl refl;
   told = λ k. nothing k _ refl refl;
   takes_up = λ k is. nothing k _ refl refl;

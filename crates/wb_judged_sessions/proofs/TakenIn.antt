@@ -167,7 +167,7 @@ steps_tell = record {
     reports = λ page until told k is. record { at = refl; told = (λ v c. subst (IsReportOf k.host) (one_of _ v c) (refl, refl), tt) };
   };
   ticks = λ now k later. quietly k _ k.policy (tt, tt);
-  arrives = λ d k. quietly k _ k.policy (tt, tt);
+  arrives = λ d k free. quietly k _ k.policy (tt, tt);
   answered = λ d k lacks asked. quietly k _ _ (tt, tt);
   hears = λ v k. quietly k _ k.policy (tt, tt);
   stops = λ name k full. quietly k _ k.policy (tt, tt);
@@ -175,7 +175,8 @@ steps_tell = record {
   lends = λ source k. quietly k _ k.policy (tt, tt);
   takes_back = λ source k. quietly k _ k.policy (tt, tt);
   tunes = λ constants k within. quietly k _ k.policy (tt, tt);
-  draws = λ d k. quietly k _ k.policy (tt, tt);
+  draws = λ d k unasked. quietly k _ k.policy (tt, tt);
+  drawn = λ d k asked. quietly k _ _ (tt, tt);
   measured = λ micros k. quietly k [] _ tt;
   told = λ k. quietly k [] _ tt;
   takes_up = λ k is. quietly k [] _ tt;

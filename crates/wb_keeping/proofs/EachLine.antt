@@ -12,7 +12,7 @@ use Rattle.wb_policy.specs.Delays.{bounded}
 use Rattle.wb_recovery.specs.declared.limits.TheConstants.{UNKNOWN_DELAY}
 use Rattle.wb_policy.specs.Choices.{echoed_delay, own_echo, own_marks, told_names}
 use Rattle.wb_member.specs.declared.calls.Call.TheVariants.{Hear, SetDelay, Ask, Stop}
-use Rattle.wb_keeping.specs.Kept.{Doing, Line, Says, Transition, and_then, answers, asks_pages, end, ends_full, is_begun, is_unasked, leap, leap_to, leaps_on, learned, measures, paid_for, reports, reports_due, reports_rest, room_lines, state_of, still, stops_one, timed, turn, turn_if, turn_to, turns_due, turns_on, turns_past, want, want_near, want_told, Arrives, hears, hears_session, hears_some, hears_state, of_other, performs, takes, takes_question, lending, hears_request, Calls}
+use Rattle.wb_keeping.specs.Kept.{Doing, Line, Says, Transition, and_then, answers, asks_pages, covers, end, ends_full, is_begun, is_unasked, leap, leap_to, leaps_on, learned, measures, paid_for, reports, reports_due, reports_rest, room_lines, state_of, still, stops_one, timed, turn, turn_if, turn_to, turns_due, turns_on, turns_past, want, want_near, want_told, Arrives, hears, hears_session, hears_some, hears_state, of_other, performs, takes, takes_question, lending, hears_request, Calls}
 use Rattle.wb_policy.specs.Policy.{Policy, after_answer, after_beat, after_leaping, after_question, after_turn, after_wanting, in_next_leaps, in_next_round, after_state, after_taking_up}
 use Rattle.wb_keeping.specs.Views.{View, is_asked, is_full, holds}
 use Rattle.wb_policy.specs.Leaps.{far_name}
@@ -51,11 +51,11 @@ module _ (P : Line → Type 0) where
   one_each stops None = tt
   one_each stops (Some a) = (stops a.name, tt)
 
-  pub room_each : ((name : NameValue) → P (Calls (Stop name))) → (name : NameValue) (v : View) → Each P (room_lines name v)
-  room_each stops name v = by (is_asked v name) where
-    by : (a : Bool) → Each P (cond a (Calls (Stop name) ∷ []) (stops_one (giving_way v.asked)))
+  pub room_each : ((name : NameValue) → P (Calls (Stop name))) → (name : NameValue) (covered : Bool) (v : View) → Each P (room_lines name covered v)
+  room_each stops name covered v = by (is_asked v name) where
+    by : (a : Bool) → Each P (cond a (Calls (Stop name) ∷ []) (stops_one (giving_way covered v.asked)))
     by true = (stops name, tt)
-    by false = one_each stops (giving_way v.asked)
+    by false = one_each stops (giving_way covered v.asked)
 
   -- a line to which the usual delay is lent
   pub lent_each : (source delay usual : ℕ) (line : Line) → P (Calls (SetDelay source usual)) → P line → P (Calls (SetDelay source UNKNOWN_DELAY))
@@ -69,7 +69,7 @@ module _ (P : Line → Type 0) where
       → P (Calls (SetDelay name.source p.usual)) → P (Calls (SetDelay name.source UNKNOWN_DELAY)) → Each P (lines_wanted name anew see p)
   wanted_each stops name asks anew see p lends takes =
       let v = see [] in
-      each_both (room_lines name v) (lending name.source (v.delay name.source) p.usual (Calls (Ask name))) (room_each stops name v)
+      each_both (room_lines name (covers v p) v) (lending name.source (v.delay name.source) p.usual (Calls (Ask name))) (room_each stops name (covers v p) v)
       (lent_each name.source (v.delay name.source) p.usual (Calls (Ask name)) lends asks takes)
 
   -- ---- the pages that it tells

@@ -1,6 +1,6 @@
 -- What is so of each step of a policy is so of all that a kept host does.
-use Rattle.std.proofs.Common.{◌≡◌, ℕ, zero, suc, ◌≤◌, Bool, true, false, cond, List, [], ◌∷◌, ◌++◌, length, map, refl, sym, subst}
-use Rattle.std.specs.Prelude.{Option, Some, None, ◌||◌, nat_eq, nat_le, nat_lt, take}
+use Rattle.std.proofs.Common.{◌≡◌, ℕ, zero, suc, ◌≤◌, Bool, true, false, cond, List, [], ◌∷◌, ◌++◌, inl, inr, length, map, refl, sym, subst}
+use Rattle.std.specs.Prelude.{◌⊎◌, Option, Some, None, ◌||◌, nat_eq, nat_le, nat_lt, take}
 use Rattle.std.proofs.lemmas.Bool.{leb-true}
 use Rattle.wb_names.specs.Values.{DrawopValue, MarkValue, NameValue}
 use Rattle.wb_names.specs.declared.echo.Echo.{Echo}
@@ -18,10 +18,10 @@ use Rattle.wb_recovery.specs.declared.limits.TheConstants.{UNKNOWN_DELAY}
 use Rattle.wb_recovery.specs.Timing.{are_constants}
 use Rattle.wb_recovery.specs.declared.tuning.Tuning.{Tuning}
 use Rattle.wb_policy.specs.Choices.{echoed_delay, own_echo, own_marks, told_names, until_in}
-use Rattle.wb_keeping.specs.Kept.{Arrives, Doing, Line, Says, Transition, and_then, answers, asks_pages, draws_it, drawing, end, ends_full, hears, hears_session, hears_some, hears_state, is_begun, is_unasked, leap, leap_to, leaps_on, learned, measures, performs, reports, reports_due, reports_page, reports_rest, state_of, still, takes, takes_question, timed, turn, turn_if, turn_to, turns_due, turns_on, turns_past, want, want_near, want_told, hears_request, Calls}
+use Rattle.wb_keeping.specs.Kept.{Arrives, Doing, Line, Says, Transition, and_then, answers, asks_pages, draws, draws_it, drawing, end, ends_full, hears, hears_session, hears_some, hears_state, is_begun, is_unasked, leap, leap_to, leaps_on, learned, measures, performs, reports, reports_due, reports_page, reports_rest, state_of, still, takes, takes_question, timed, turn, turn_if, turn_to, turns_due, turns_on, turns_past, want, want_near, want_told, hears_request, Calls}
 use Rattle.wb_keeping.specs.Laws.{Added, AreTaken, Came, KeptLine, Ticked, Tuned, after_kept, doing_of, expand, fault_of}
 use Rattle.wb_keeping.specs.Performing.{Keeping, after_doing, after_line, after_lines, sees, view_of}
-use Rattle.wb_policy.specs.Policy.{Policy, after_answer, after_beat, after_came, after_leaping, after_question, after_state, after_taking_up, after_turn, in_next_leaps, in_next_round, after_echo}
+use Rattle.wb_policy.specs.Policy.{Policy, after_answer, after_beat, after_came, after_drawing, after_leaping, after_question, after_state, after_taking_up, after_turn, in_next_leaps, in_next_round, after_echo}
 use Rattle.wb_keeping.specs.Views.{View, holds, is_asked, is_full}
 use Rattle.wb_policy.specs.Leaps.{far_name}
 use Rattle.wb_policy.specs.Questions.{is_due, is_to_answer}
@@ -62,11 +62,15 @@ pub record HoldsOfDue (R : Keeping → List Line → Keeping → Type 0) : Type 
   pub reports : (page : PageId) (until : ℕ) (told : Option ℕ) (k : Keeping) → nat_le k.policy.reports.due (present k.host) ≡ true
       → R k (reports_page page until (slice_after told (report_of k.host.is.held page)) (sees k.host) k.policy).lines (after_doing (reports_page page until (slice_after told (report_of k.host.is.held page))) k)
 
+-- a drawop that comes pays nothing: it was not asked for, or is held, or the board is full, perhaps since it came
+abbrev pub PaysNothing : DrawopValue → Keeping → Type 0
+PaysNothing d k = (is_asked (view_of k.host) d.name ≡ false) ⊎ ((holds (view_of k.host) d.name ≡ true) ⊎ ((is_full (view_of k.host) ≡ true) ⊎ (is_full (view_of (having (Arrives d) k).host) ≡ true)))
+
 -- It holds of each step of a policy.
 pub record HoldsOfSteps (R : Keeping → List Line → Keeping → Type 0) : Type 0 where
   pub due : HoldsOfDue R
   pub ticks : (now : ℕ) (k : Keeping) → present k.host ≤ now → R k (Calls (Tick now) ∷ []) (having (Calls (Tick now)) k)
-  pub arrives : (d : DrawopValue) (k : Keeping) → R k (Arrives d ∷ []) (having (Arrives d) k)
+  pub arrives : (d : DrawopValue) (k : Keeping) → PaysNothing d k → R k (Arrives d ∷ []) (having (Arrives d) k)
   pub answered : (d : DrawopValue) (k : Keeping) → holds (view_of k.host) d.name ≡ false → is_asked (view_of k.host) d.name ≡ true → R k (Arrives d ∷ []) (with_policy (after_came k.policy) (having (Arrives d) k))
   pub hears : (v : Datagram) (k : Keeping) → R k (Calls (Hear v) ∷ []) (having (Calls (Hear v)) k)
   -- outside of `wants` only a full board gives names up
@@ -75,7 +79,8 @@ pub record HoldsOfSteps (R : Keeping → List Line → Keeping → Type 0) : Typ
   pub lends : (source : ℕ) (k : Keeping) → R k (Calls (SetDelay source k.policy.usual) ∷ []) (having (Calls (SetDelay source k.policy.usual)) k)
   pub takes_back : (source : ℕ) (k : Keeping) → R k (Calls (SetDelay source UNKNOWN_DELAY) ∷ []) (having (Calls (SetDelay source UNKNOWN_DELAY)) k)
   pub tunes : (constants : Tuning) (k : Keeping) → are_constants constants ≡ true → R k (Calls (Tune constants) ∷ []) (having (Calls (Tune constants)) k)
-  pub draws : (d : DrawopValue) (k : Keeping) → R k (Says (Draw d) ∷ []) (having (Says (Draw d)) k)
+  pub draws : (d : DrawopValue) (k : Keeping) → is_asked (view_of k.host) d.name ≡ false → R k (Says (Draw d) ∷ []) (having (Says (Draw d)) k)
+  pub drawn : (d : DrawopValue) (k : Keeping) → is_asked (view_of k.host) d.name ≡ true → R k (Says (Draw d) ∷ []) (with_policy (after_drawing k.policy) (having (Says (Draw d)) k))
   pub measured : (micros : ℕ) (k : Keeping) → R k [] (with_policy (after_echo micros k.policy) k)
   pub told : (k : Keeping) → R k [] (with_policy (after_state (present k.host) k.policy) k)
   pub takes_up : (k : Keeping) → is_to_answer (present k.host) (nat_lt 0 (length k.host.is.held)) k.policy.questions ≡ true → R k [] (with_policy (after_taking_up (present k.host) k.policy) k)
@@ -84,7 +89,7 @@ pub record HoldsOfSteps (R : Keeping → List Line → Keeping → Type 0) : Typ
 pub record HoldsOfParts (R : Keeping → List Line → Keeping → Type 0) : Type 0 where
   pub due : HoldsOfDue R
   pub ticks : (now : ℕ) (k : Keeping) → present k.host ≤ now → R k (Calls (Tick now) ∷ []) (having (Calls (Tick now)) k)
-  pub arrives : (d : DrawopValue) (k : Keeping) → R k (Arrives d ∷ []) (having (Arrives d) k)
+  pub arrives : (d : DrawopValue) (k : Keeping) → PaysNothing d k → R k (Arrives d ∷ []) (having (Arrives d) k)
   pub answered : (d : DrawopValue) (k : Keeping) → holds (view_of k.host) d.name ≡ false → is_asked (view_of k.host) d.name ≡ true → R k (Arrives d ∷ []) (with_policy (after_came k.policy) (having (Arrives d) k))
   pub hears_request : (asker : ℕ) (name : NameValue) (k : Keeping) → R k (Calls (Hear (Request asker name)) ∷ []) (having (Calls (Hear (Request asker name))) k)
   pub lends : (source : ℕ) (k : Keeping) → R k (Calls (SetDelay source k.policy.usual) ∷ []) (having (Calls (SetDelay source k.policy.usual)) k)
@@ -97,7 +102,8 @@ pub record HoldsOfParts (R : Keeping → List Line → Keeping → Type 0) : Typ
       R k (Calls (Hear (Session sender sent page marks echo)) ∷ d.lines) (having_done d m)
   pub stops : (name : NameValue) (k : Keeping) → is_full (view_of k.host) ≡ true → R k (Calls (Stop name) ∷ []) (having (Calls (Stop name)) k)
   pub tunes : (constants : Tuning) (k : Keeping) → are_constants constants ≡ true → R k (Calls (Tune constants) ∷ []) (having (Calls (Tune constants)) k)
-  pub draws : (d : DrawopValue) (k : Keeping) → R k (Says (Draw d) ∷ []) (having (Says (Draw d)) k)
+  pub draws : (d : DrawopValue) (k : Keeping) → is_asked (view_of k.host) d.name ≡ false → R k (Says (Draw d) ∷ []) (having (Says (Draw d)) k)
+  pub drawn : (d : DrawopValue) (k : Keeping) → is_asked (view_of k.host) d.name ≡ true → R k (Says (Draw d) ∷ []) (with_policy (after_drawing k.policy) (having (Says (Draw d)) k))
   pub told : (k : Keeping) → R k [] (with_policy (after_state (present k.host) k.policy) k)
   pub takes_up : (k : Keeping) → is_to_answer (present k.host) (nat_lt 0 (length k.host.is.held)) k.policy.questions ≡ true → R k [] (with_policy (after_taking_up (present k.host) k.policy) k)
 
@@ -132,6 +138,7 @@ module _ (R : Keeping → List Line → Keeping → Type 0) (is : HoldsOfSteps R
     stops = is.stops;
     tunes = is.tunes;
     draws = is.draws;
+    drawn = is.drawn;
     told = is.told;
     takes_up = is.takes_up;
   }
@@ -306,7 +313,7 @@ module _ (R : Keeping → List Line → Keeping → Type 0) (is : HoldsOfParts R
       let m = having (Arrives d) k in
       let see = sees m.host in
       either (λ (e : Doing). HoldsOf R k (doing e.policy (Arrives d ∷ e.lines))) (is_full (view_of m.host)) (end see m.policy) (with_room_done d.name was see m.policy)
-      (λ full. is.due.both k m (having_done (end see m.policy) m) (Arrives d ∷ []) (end see m.policy).lines (is.arrives d k) (end_holds m full))
+      (λ full. is.due.both k m (having_done (end see m.policy) m) (Arrives d ∷ []) (end see m.policy).lines (is.arrives d k (inr (inr (inr full)))) (end_holds m full))
       (λ room. by was asked) where
         room_left : Bool → Doing
         room_left b = with_room_done d.name b (sees (having (Arrives d) k).host) k.policy
@@ -317,7 +324,7 @@ module _ (R : Keeping → List Line → Keeping → Type 0) (is : HoldsOfParts R
             is.due.both k (with_policy (after_came k.policy) m) (having_done (room_left true) m) (Arrives d ∷ []) (room_left true).lines (is.answered d k lacks e) (asked_holds d.name m)
         by false e =
             let m = having (Arrives d) k in
-            is.due.both k m (having_done (room_left false) m) (Arrives d ∷ []) (room_left false).lines (is.arrives d k) (unasked_holds d.name m)
+            is.due.both k m (having_done (room_left false) m) (Arrives d ∷ []) (room_left false).lines (is.arrives d k (inl e)) (unasked_holds d.name m)
 
   takes_holds : (d : DrawopValue) → Holds R (takes d)
   takes_holds d k = by (holds (view_of k.host) d.name) refl where
@@ -325,8 +332,8 @@ module _ (R : Keeping → List Line → Keeping → Type 0) (is : HoldsOfParts R
     new = and_then (performs (Arrives d)) (learned d.name (is_asked (view_of k.host) d.name)) (sees k.host) k.policy
 
     by : (b : Bool) → holds (view_of k.host) d.name ≡ b → HoldsOf R k (cond (b || is_full (view_of k.host)) (performs (Arrives d) (sees k.host) k.policy) new)
-    by true e = is.arrives d k
-    by false e = either (HoldsOf R k) (is_full (view_of k.host)) (performs (Arrives d) (sees k.host) k.policy) new (λ full. is.arrives d k) (λ room. came_in d k (is_asked (view_of k.host) d.name) refl e)
+    by true e = is.arrives d k (inr (inl e))
+    by false e = either (HoldsOf R k) (is_full (view_of k.host)) (performs (Arrives d) (sees k.host) k.policy) new (λ full. is.arrives d k (inr (inr (inl full)))) (λ room. came_in d k (is_asked (view_of k.host) d.name) refl e)
 
   session_holds : (sender sent : ℕ) (page : PageId) (marks : List MarkValue) (echoes : List Echo) (k : Keeping) → nat_eq sender k.host.is.number ≡ false → HoldsAt R (hears_session sender sent page marks echoes) k
   session_holds sender sent page marks echoes k other =
@@ -388,6 +395,13 @@ module _ (R : Keeping → List Line → Keeping → Type 0) (is : HoldsOfParts R
   hears_holds (Request asker name) k = of_other_holds asker (hears_request asker name) k (λ other. request_holds asker name k)
   hears_holds (AskPages asker) k = of_other_holds asker takes_question k (λ other. question_holds k)
 
+  -- its user draws what it had asked for, or something else
+  drawing_holds : (d : DrawopValue) (k : Keeping) → HoldsAt R (draws d) k
+  drawing_holds d k = by (is_asked (view_of k.host) d.name) refl where
+    by : (b : Bool) → is_asked (view_of k.host) d.name ≡ b → HoldsOf R k (doing (cond b (after_drawing k.policy) k.policy) (Says (Draw d) ∷ []))
+    by true e = is.drawn d k e
+    by false e = is.draws d k e
+
   -- ---- lines
 
   pub line_of_parts : (line : KeptLine) (k : Keeping) → fault_of line k ≡ None → HoldsAt R (doing_of line) k
@@ -403,7 +417,7 @@ module _ (R : Keeping → List Line → Keeping → Type 0) (is : HoldsOfParts R
       let second = draws_it page time op in
       let later = leb-true _ _ (unless_true (nat_le (present k.host) now) _ (first_none _ _ (first_none _ _ none))) in
       then_at R is.due first (and_then second (and_then ends_full timed)) k (is.ticks now k later)
-      (then_holds R is.due second (and_then ends_full timed) (λ k. is.draws (drawing (view_of k.host) page time op) k) (then_holds R is.due ends_full timed ends_hold (timed_holds R is.due)) (after_doing first k))
+      (then_holds R is.due second (and_then ends_full timed) (λ k. drawing_holds (drawing (view_of k.host) page time op) k) (then_holds R is.due ends_full timed ends_hold (timed_holds R is.due)) (after_doing first k))
   line_of_parts (Tuned constants) k none = is.tunes constants k (unless_true (are_constants constants) _ none)
 
   -- all that a kept host does

@@ -1,6 +1,6 @@
 -- At most 64 request timers stand, whatever comes in.
 use Rattle.std.proofs.Common.{◌≡◌, ℕ, ◌≤◌, zero, suc, Bool, true, false, cond, List, [], ◌∷◌, ◌++◌, ◌∙◌, Some, None, ap, arith, inl, inr, length, map, refl, subst, sym, ⊎_elim}
-use Rattle.std.specs.Prelude.{◌⊎◌, Contains, nat_eq, nat_le, nat_lt, take}
+use Rattle.std.specs.Prelude.{◌⊎◌, ◌&&◌, Contains, nat_eq, nat_le, nat_lt, take}
 use Rattle.std.specs.List.{fold}
 use Rattle.std.proofs.lemmas.Bool.{leb-false, or_parts}
 use Rattle.wb_names.specs.Values.{NameValue}
@@ -13,7 +13,7 @@ use Rattle.wb_member.specs.Opened.{Opened, events, opened_with, present}
 use Rattle.wb_member.specs.declared.calls.Call.TheVariants.{Tick, SetDelay, Ask, Stop}
 use Rattle.wb_keeping.specs.Bounds.{FewRequestsAtOnce, FewTimersStand, is_ask, new_keeping, timer_count}
 use Rattle.wb_recovery.specs.declared.limits.TheConstants.{UNKNOWN_DELAY}
-use Rattle.wb_keeping.specs.Kept.{Line, room_lines, still, stops_one, want, lending, Calls, ticks_at}
+use Rattle.wb_keeping.specs.Kept.{Line, covers, room_lines, still, stops_one, want, lending, Calls, ticks_at}
 use Rattle.wb_keeping.specs.Laws.{AreTaken, KeptLine, expand}
 use Rattle.wb_keeping.specs.Performing.{Keeping, after_line, after_lines, sees, view_of}
 use Rattle.wb_policy.specs.Policy.{Policy, after_wanting}
@@ -23,7 +23,7 @@ use Rattle.wb_policy.specs.declared.wanting.AskedName.{AskedName}
 use Rattle.wb_keeping.proofs.AskedTimers.{count_seen, named}
 use Rattle.wb_keeping.proofs.EachStep.{HoldsOfSteps, all_hold, doing}
 use Rattle.wb_keeping.proofs.Performed.{after_both}
-use Rattle.wb_keeping.proofs.StandingTimers.{few_requests, no_more, one_less, one_more, stands_asked, stands_in}
+use Rattle.wb_keeping.proofs.StandingTimers.{Stands, few_requests, no_more, one_less, one_more, stands_asked, stands_in}
 use Rattle.wb_keeping.proofs.Wanted.{lines_wanted}
 use Rattle.wb_keeping.proofs.EachLine.{Each, states_each}
 
@@ -105,45 +105,48 @@ oldest_among a later = ⊎_elim
       names : List NameValue
       names = map (λ (a : AskedName). a.name) later
 
+pub oldest_stands : (host : Opened) (a : AskedName) (later : List AskedName) → a ∷ later ≡ (view_of host).asked → Stands host (fold older a later).name
+oldest_stands host a later e =
+    let names : map (λ (a : AskedName). a.name) (a ∷ later) ≡ asked_names host = ap (map (λ (a : AskedName). a.name)) e ∙ named (timers_of host.is.constants (events host)) _ in
+    stands_in host (fold older a later).name (subst (λ (ns : List NameValue). Contains ns (fold older a later).name) names (oldest_among a later))
+
 -- behind the one that gives way there is room for one more
-way_made : (host : Opened) (asked : List AskedName) → asked ≡ (view_of host).asked → timer_count host ≤ 64 → AreFew (stops_one (giving_way asked)) host × (timer_count (after_lines (stops_one (giving_way asked)) host) ≤ 63)
-way_made host [] e few = let none = ap (λ (asked : List AskedName). length asked) e ∙ count_seen host in (few, omega (arith, none))
-way_made host (a ∷ later) e few = by (gives_way (length (a ∷ later)) (fold older a later).level) refl where
+way_made : (covered : Bool) (host : Opened) (asked : List AskedName) → asked ≡ (view_of host).asked → timer_count host ≤ 64 → let way = stops_one (giving_way covered asked) in AreFew way host × (timer_count (after_lines way host) ≤ 63)
+way_made covered host [] e few = let none = ap (λ (asked : List AskedName). length asked) e ∙ count_seen host in (few, omega (arith, none))
+way_made covered host (a ∷ later) e few = by (gives_way covered (length (a ∷ later)) (fold older a later).level) refl where
   first : AskedName
   first = fold older a later
 
   way : Bool → List Line
   way b = stops_one (cond b (Some first) None)
 
-  by : (b : Bool) → gives_way (length (a ∷ later)) first.level ≡ b → AreFew (way b) host × (timer_count (after_lines (way b) host) ≤ 63)
+  by : (b : Bool) → gives_way covered (length (a ∷ later)) first.level ≡ b → AreFew (way b) host × (timer_count (after_lines (way b) host) ≤ 63)
   by false f =
-      let lt = leb-false 64 (length (a ∷ later)) (or_parts (nat_le 64 (length (a ∷ later))) (is_old first.level) f).0 in
+      let lt = leb-false 64 (length (a ∷ later)) (or_parts (nat_le 64 (length (a ∷ later))) (is_old first.level && covered) f).0 in
       let counts = ap (λ (asked : List AskedName). length asked) e ∙ count_seen host in
       (few, omega (arith, lt, counts))
   by true f =
-      let names : map (λ (a : AskedName). a.name) (a ∷ later) ≡ asked_names host = ap (map (λ (a : AskedName). a.name)) e ∙ named (timers_of host.is.constants (events host)) _ in
-      let stands = stands_in host first.name (subst (λ (ns : List NameValue). Contains ns first.name) names (oldest_among a later)) in
-      let lt = one_less first.name host stands in
+      let lt = one_less first.name host (oldest_stands host a later e) in
       ((few, omega (arith, lt, few)), omega (arith, lt, few))
 
 -- there is room for one timer more
-room_made : (name : NameValue) (host : Opened) → timer_count host ≤ 64 → AreFew (room_lines name (view_of host)) host × (timer_count (after_lines (room_lines name (view_of host)) host) ≤ 63)
-room_made name host few = by (is_asked (view_of host) name) refl where
+room_made : (name : NameValue) (covered : Bool) (host : Opened) → timer_count host ≤ 64 → let lines = room_lines name covered (view_of host) in AreFew lines host × (timer_count (after_lines lines host) ≤ 63)
+room_made name covered host few = by (is_asked (view_of host) name) refl where
   lines_by : Bool → List Line
-  lines_by a = cond a (Calls (Stop name) ∷ []) (stops_one (giving_way (view_of host).asked))
+  lines_by a = cond a (Calls (Stop name) ∷ []) (stops_one (giving_way covered (view_of host).asked))
 
   by : (a : Bool) → is_asked (view_of host) name ≡ a → AreFew (lines_by a) host × (timer_count (after_lines (lines_by a) host) ≤ 63)
   by true e = let lt = one_less name host (stands_asked host name e) in ((few, omega (arith, lt, few)), omega (arith, lt, few))
-  by false e = way_made host (view_of host).asked refl few
+  by false e = way_made covered host (view_of host).asked refl few
 
 wanted_few : (name : NameValue) (anew : Bool) (k : Keeping) → timer_count k.host ≤ 64 → AreFew (want name anew (sees k.host) k.policy).lines k.host
-wanted_few name anew k few = by (is_wanted (holds (view_of k.host) name) (is_full (view_of k.host)) anew (is_known (view_of k.host) name.source) (level (view_of k.host) name) k.policy.owed (present k.host)) where
+wanted_few name anew k few = by (is_wanted (holds (view_of k.host) name) (is_full (view_of k.host)) anew (is_known (view_of k.host) name.source) (level (view_of k.host) name) (length (view_of k.host).asked) k.policy.owed (present k.host)) where
   by : (b : Bool) → AreFew (cond b (doing (after_wanting (present k.host) k.policy) (lines_wanted name anew (sees k.host) k.policy)) (still (sees k.host) k.policy)).lines k.host
   by false = few
   by true =
-      let room = room_made name k.host few in
-      few_both (room_lines name (view_of k.host)) (lending name.source ((view_of k.host).delay name.source) k.policy.usual (Calls (Ask name))) k.host room.0
-      (lent_few name.source ((view_of k.host).delay name.source) k.policy.usual name (after_lines (room_lines name (view_of k.host)) k.host) room.1)
+      let room = room_made name (covers (view_of k.host) k.policy) k.host few in
+      few_both (room_lines name (covers (view_of k.host) k.policy) (view_of k.host)) (lending name.source ((view_of k.host).delay name.source) k.policy.usual (Calls (Ask name))) k.host room.0
+      (lent_few name.source ((view_of k.host).delay name.source) k.policy.usual name (after_lines (room_lines name (covers (view_of k.host) k.policy) (view_of k.host)) k.host) room.1)
 
 -- ---- all that a kept host does
 
@@ -176,7 +179,7 @@ steps_keep_few = record {
     reports = λ page until told k is. quietly k _ _ (refl, tt);
   };
   ticks = λ now k later. quietly k (Calls (Tick now) ∷ []) k.policy (refl, tt);
-  arrives = λ d k. quietly k _ k.policy (refl, tt);
+  arrives = λ d k free. quietly k _ k.policy (refl, tt);
   answered = λ d k lacks asked. quietly k _ _ (refl, tt);
   hears = λ v k. quietly k _ k.policy (refl, tt);
   stops = λ name k full. quietly k _ k.policy (refl, tt);
@@ -184,7 +187,8 @@ steps_keep_few = record {
   lends = λ source k. quietly k _ k.policy (refl, tt);
   takes_back = λ source k. quietly k _ k.policy (refl, tt);
   tunes = λ constants k within. quietly k _ k.policy (refl, tt);
-  draws = λ d k. quietly k _ k.policy (refl, tt);
+  draws = λ d k unasked. quietly k _ k.policy (refl, tt);
+  drawn = λ d k asked. quietly k _ _ (refl, tt);
   measured = λ micros k. quietly k [] _ tt;
   told = λ k. quietly k [] _ tt;
   takes_up = λ k is. quietly k [] _ tt;

@@ -1,6 +1,6 @@
 -- What is so of all delays of a self-managing host: if it is so of the unknown one, of each that an echo tells, within bounds, and of
 -- the mean of two that are so, then each line that the host performs finds such delays, and leaves such.
-use Rattle.std.proofs.Common.{◌≡◌, ℕ, ◌≤◌, Bool, true, false, cond, List, [], ◌∷◌, ◌++◌, ◌∙◌, Option, Some, None, ap, map, refl, subst, sym}
+use Rattle.std.proofs.Common.{◌≡◌, ℕ, ◌≤◌, Bool, true, false, cond, List, [], ◌∷◌, ◌++◌, ◌∙◌, Option, Some, None, ap, map, refl, subst, sym, length}
 use Rattle.std.specs.Prelude.{IfSome, nat_eq, take, unwrap_or}
 use Rattle.std.specs.List.{find}
 use Rattle.std.specs.Option.{option_or}
@@ -137,7 +137,7 @@ module _ (P : ℕ → Type 0) (Q : Line → Opened → Type 0) (terms : Terms P 
   }
 
   wants_keep : (name : NameValue) (anew : Bool) (k : Keeping) → Keeps P Q k (want name anew (sees k.host) k.policy).lines (after_doing (want name anew) k)
-  wants_keep name anew k = by (is_wanted (holds (view_of k.host) name) (is_full (view_of k.host)) anew (is_known (view_of k.host) name.source) (level (view_of k.host) name) k.policy.owed (present k.host)) where
+  wants_keep name anew k = by (is_wanted (holds (view_of k.host) name) (is_full (view_of k.host)) anew (is_known (view_of k.host) name.source) (level (view_of k.host) name) (length (view_of k.host).asked) k.policy.owed (present k.host)) where
     wanted : Doing
     wanted = doing (after_wanting (present k.host) k.policy) (lines_wanted name anew (sees k.host) k.policy)
 
@@ -233,7 +233,7 @@ module _ (P : ℕ → Type 0) (Q : Line → Opened → Type 0) (terms : Terms P 
       reports = λ page until told k is. safely k _ _ (λ so. ((terms.reports _ _ _ _ _ k.host so, tt), so)) (λ u. u);
     };
     ticks = λ now k later. safely k (Calls (Tick now) ∷ []) k.policy (λ so. ((terms.ticks now k.host later so, tt), λ source. so source)) (λ u. u);
-    arrives = λ d k. safely k (Arrives d ∷ []) k.policy (λ so. ((terms.arrives d k.host so, tt), λ source. so source)) (λ u. u);
+    arrives = λ d k free. safely k (Arrives d ∷ []) k.policy (λ so. ((terms.arrives d k.host so, tt), λ source. so source)) (λ u. u);
     answered = λ d k lacks asked. safely k (Arrives d ∷ []) _ (λ so. ((terms.arrives d k.host so, tt), λ source. so source)) (λ u. u);
     hears_request = λ asker name k. safely k (Calls (Hear (Request asker name)) ∷ []) k.policy
         (λ so. ((terms.hears (Request asker name) k.host so, tt), heard_so (Request asker name) k.host (λ source. none_told (nat_eq asker k.host.is.number) (told_last source k.host) (so source)) so)) (λ u. u);
@@ -244,7 +244,8 @@ module _ (P : ℕ → Type 0) (Q : Line → Opened → Type 0) (terms : Terms P 
     takes_back = λ source k. safely k (Calls (SetDelay source UNKNOWN_DELAY) ∷ []) k.policy (sets_safe source UNKNOWN_DELAY terms.unknown k.host) (λ u. u);
     stops = λ name k full. safely k (Calls (Stop name) ∷ []) k.policy (stops_safe name k.host) (λ u. u);
     tunes = λ constants k within. safely k (Calls (Tune constants) ∷ []) k.policy (λ so. ((terms.tunes constants k.host within so, tt), λ source. so source)) (λ u. u);
-    draws = λ d k. safely k (Says (Draw d) ∷ []) k.policy (λ so. ((terms.draws d k.host so, tt), λ source. so source)) (λ u. u);
+    draws = λ d k unasked. safely k (Says (Draw d) ∷ []) k.policy (λ so. ((terms.draws d k.host so, tt), λ source. so source)) (λ u. u);
+    drawn = λ d k asked. safely k (Says (Draw d) ∷ []) _ (λ so. ((terms.draws d k.host so, tt), λ source. so source)) (λ u. u);
     told = λ k. safely k [] _ (nothing_safe k.host) (λ u. u);
     takes_up = λ k is. safely k [] _ (nothing_safe k.host) (λ u. u);
   }

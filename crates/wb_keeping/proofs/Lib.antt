@@ -15,8 +15,10 @@ pub mod Saying
 pub mod PolicyCalls
 pub mod EachStep
 pub mod StandingTimers
+pub mod StayStanding
 pub mod FewTimers
 pub mod LittleSaid
+pub mod OwedStands
 pub mod TakenTurns
 pub mod ToldReports
 pub mod WantedNames

@@ -19,17 +19,17 @@ use Rattle.wb_policy.specs.Credit.{has_credit}
 use Rattle.wb_policy.specs.Delays.{bounded}
 use Rattle.wb_recovery.specs.declared.limits.TheConstants.{UNKNOWN_DELAY}
 use Rattle.wb_policy.specs.Choices.{last_heard}
-use Rattle.wb_keeping.specs.Kept.{Arrives, Doing, Line, Says, reports_page, room_lines, state_of, still, want, lending, Calls}
+use Rattle.wb_keeping.specs.Kept.{Arrives, Doing, Line, Says, covers, reports_page, room_lines, state_of, still, want, lending, Calls}
 use Rattle.wb_keeping.specs.Laws.{AreTaken, KeptLine, after_kept, expand}
 use Rattle.wb_keeping.specs.Performing.{Keeping, after_doing, after_line, after_lines, sees, view_of}
-use Rattle.wb_policy.specs.Policy.{Policy, after_answer, after_came, after_question, after_state, after_taking_up, after_wanting, draws}
+use Rattle.wb_policy.specs.Policy.{Policy, after_answer, after_came, after_drawing, after_question, after_state, after_taking_up, after_wanting, draws}
 use Rattle.wb_keeping.specs.Views.{View, holds, is_asked, is_full, level, is_known}
 use Rattle.wb_policy.specs.Questions.{answered_at, heard_at, is_due, is_to_answer, to_answer}
 use Rattle.wb_policy.specs.Reports.{mean_time, members_in, slice_after}
-use Rattle.wb_policy.specs.Wanting.{goes_on, is_paid, is_wanted}
+use Rattle.wb_policy.specs.Wanting.{is_wanted}
 use Rattle.wb_policy.specs.declared.questions.Questions.{Questions}
 use Rattle.wb_keeping.proofs.EachStep.{HoldsOfSteps, all_hold, doing, having, having_done, with_policy}
-use Rattle.wb_keeping.proofs.KeptLines.{all_hold as all_four}
+use Rattle.wb_keeping.proofs.Wanted.{parts_wanted}
 use Rattle.wb_keeping.proofs.Performed.{after_both}
 use Rattle.wb_policy.proofs.Spending.{IsPaid, has_place, one_asked, one_came}
 use Rattle.wb_keeping.proofs.EachLine.{Each, room_each}
@@ -153,11 +153,11 @@ IsPlain (Says v) = ⊥
 abbrev ArePlain : List Line → Type 0
 ArePlain lines = Each IsPlain lines
 
-present_heard : (v : Datagram) (host : Opened) (b : Bool) → present (cond b (heard v host) host) ≡ present host
+pub present_heard : (v : Datagram) (host : Opened) (b : Bool) → present (cond b (heard v host) host) ≡ present host
 present_heard v host true = refl
 present_heard v host false = refl
 
-present_asks : (name : NameValue) (host : Opened) → present (after_line (Calls (Ask name)) host) ≡ present host
+pub present_asks : (name : NameValue) (host : Opened) → present (after_line (Calls (Ask name)) host) ≡ present host
 present_asks name host = by (may_ask name host) where
   by : (b : Bool) → present (cond b (doing_act (Misses (present host) (name ∷ []) (word_of host.random ∷ [])) 1 host) host) ≡ present host
   by true = refl
@@ -242,6 +242,17 @@ arrives_keep d k = record {
       };
 }
 
+one_came_more : (start wait now owed due : ℕ) (q : Questions) (c e : Counts) → e.asks ≡ c.asks → e.comes ≡ c.comes + 1 → e.reports ≡ c.reports → e.states ≡ c.states → e.questions ≡ c.questions
+    → IsWithin start wait now owed due q c → IsWithin start wait now (owed - 500000) due q e
+one_came_more start wait now owed due q c e a b r s p w = record {
+  paid = subst (λ (n : ℕ). IsPaid start now (owed - 500000) n e.comes) (sym a) (subst (λ (n : ℕ). IsPaid start now (owed - 500000) c.asks n) (sym b) (one_came start now owed c.asks c.comes w.paid));
+  told = subst (λ (n : ℕ). IsSpaced start now due 1000000 (n * 1000000)) (sym r) w.told;
+  bursts = w.bursts;
+  answered = w.answered;
+  few = let few = w.few in omega (arith, few, s);
+  asking = λ slow. subst (λ (n : ℕ). IsAsking start now q n) (sym p) (w.asking slow);
+}
+
 answered_keep : (d : DrawopValue) (k : Keeping) → holds (view_of k.host) d.name ≡ false → is_asked (view_of k.host) d.name ≡ true → Keeps k (Arrives d ∷ []) (with_policy (after_came k.policy) (having (Arrives d) k))
 answered_keep d k lacks asked = record {
   at = refl;
@@ -252,16 +263,20 @@ answered_keep d k lacks asked = record {
       let r = up.reports in
       let s = up.states in
       let q = up.questions in
-      let states = w.few in
-      record {
-        paid = subst (λ (n : ℕ). IsPaid start (present k.host) (k.policy.owed - 500000) n e.comes) (omega (arith, a))
-            (subst (λ (n : ℕ). IsPaid start (present k.host) (k.policy.owed - 500000) c.asks n) (omega (arith, b, one)) (one_came start (present k.host) k.policy.owed c.asks c.comes w.paid));
-        told = subst (λ (n : ℕ). IsSpaced start (present k.host) k.policy.reports.due 1000000 (n * 1000000)) (omega (arith, r)) w.told;
-        bursts = w.bursts;
-        answered = w.answered;
-        few = omega (arith, states, s);
-        asking = λ slow. subst (λ (n : ℕ). IsAsking start (present k.host) k.policy.questions n) (omega (arith, q)) (w.asking slow);
-      };
+      one_came_more start wait (present k.host) k.policy.owed k.policy.reports.due k.policy.questions c e (omega (arith, a)) (omega (arith, b, one)) (omega (arith, r)) (omega (arith, s)) (omega (arith, q)) w;
+}
+
+drawn_keep : (d : DrawopValue) (k : Keeping) → is_asked (view_of k.host) d.name ≡ true → Keeps k (Says (Draw d) ∷ []) (with_policy (after_drawing k.policy) (having (Says (Draw d)) k))
+drawn_keep d k asked = record {
+  at = refl;
+  within = λ start wait c e up w.
+      let a = up.asks in
+      let one : answer_count (Says (Draw d) ∷ []) k.host ≡ 1 = ap (λ (b : Bool). cond b 1 0 + 0) asked in
+      let b = up.comes in
+      let r = up.reports in
+      let s = up.states in
+      let q = up.questions in
+      one_came_more start wait (present k.host) k.policy.owed k.policy.reports.due k.policy.questions c e (omega (arith, a)) (omega (arith, b, one)) (omega (arith, r)) (omega (arith, s)) (omega (arith, q)) w;
 }
 
 -- ---- time goes on
@@ -342,26 +357,26 @@ lent_keeps source delay name k credit = by (nat_eq delay UNKNOWN_DELAY) where
       (both_keep one two three (Calls (Ask name) ∷ []) (Calls (SetDelay source UNKNOWN_DELAY) ∷ []) (asks_keep name one credit) (plainly two (Calls (SetDelay source UNKNOWN_DELAY) ∷ []) (tt, tt)))
 
 wants_keep : (name : NameValue) (anew : Bool) (k : Keeping) → Keeps k (want name anew (sees k.host) k.policy).lines (after_doing (want name anew) k)
-wants_keep name anew k = by (is_wanted (holds v name) (is_full v) anew (is_known v name.source) (level v name) k.policy.owed (present k.host)) refl where
+wants_keep name anew k = by (is_wanted (holds v name) (is_full v) anew (is_known v name.source) (level v name) (length v.asked) k.policy.owed (present k.host)) refl where
   v : View
   v = view_of k.host
 
   room : List Line
-  room = room_lines name v
+  room = room_lines name (covers v k.policy) v
 
   last : List Line
   last = lending name.source (v.delay name.source) k.policy.usual (Calls (Ask name))
 
   room_plain : ArePlain room
-  room_plain = room_each IsPlain (λ name. tt) name v
+  room_plain = room_each IsPlain (λ name. tt) name (covers v k.policy) v
 
   wanted : Doing
   wanted = doing (after_wanting (present k.host) k.policy) (room ++ last)
 
-  by : (b : Bool) → is_wanted (holds v name) (is_full v) anew (is_known v name.source) (level v name) k.policy.owed (present k.host) ≡ b → Keeps k (cond b wanted (still (sees k.host) k.policy)).lines (having_done (cond b wanted (still (sees k.host) k.policy)) k)
+  by : (b : Bool) → is_wanted (holds v name) (is_full v) anew (is_known v name.source) (level v name) (length v.asked) k.policy.owed (present k.host) ≡ b → Keeps k (cond b wanted (still (sees k.host) k.policy)).lines (having_done (cond b wanted (still (sees k.host) k.policy)) k)
   by false e = plainly k [] tt
   by true e =
-      let credit = has_place (anew || is_known v name.source) k.policy.owed (present k.host) (all_four (holds v name) (is_full v) (goes_on anew (level v name)) (is_paid (anew || is_known v name.source) k.policy.owed (present k.host)) e).0 in
+      let credit = has_place (anew || is_known v name.source) k.policy.owed (present k.host) (parts_wanted name anew (sees k.host) k.policy e).3 in
       let one = having_done (doing k.policy room) k in
       let stands : present one.host ≡ present k.host = present_plain room k.host room_plain in
       let asked = lent_keeps name.source (v.delay name.source) name one (subst (λ (n : ℕ). IsTrue (has_credit k.policy.owed n)) (sym stands) credit) in
@@ -536,8 +551,8 @@ takes_up_keep k is = record {
 
 -- ---- all that a kept host does
 
-draws_keep : (d : DrawopValue) (k : Keeping) → Keeps k (Says (Draw d) ∷ []) (having (Says (Draw d)) k)
-draws_keep d k = quietly k (Says (Draw d) ∷ []) k.policy (zeros (Says (Draw d) ∷ []) k.host refl refl refl refl refl) refl refl refl refl
+draws_keep : (d : DrawopValue) (k : Keeping) → is_asked (view_of k.host) d.name ≡ false → Keeps k (Says (Draw d) ∷ []) (having (Says (Draw d)) k)
+draws_keep d k unasked = quietly k (Says (Draw d) ∷ []) k.policy (zeros (Says (Draw d) ∷ []) k.host refl (ap (λ (b : Bool). cond b 1 0 + 0) unasked) refl refl refl) refl refl refl refl
 
 steps_keep : HoldsOfSteps Keeps
 steps_keep = record {
@@ -552,7 +567,7 @@ steps_keep = record {
     reports = reports_keep;
   };
   ticks = ticks_keep;
-  arrives = arrives_keep;
+  arrives = λ d k free. arrives_keep d k;
   answered = answered_keep;
   hears = λ v k. plainly k (Calls (Hear v) ∷ []) (tt, tt);
   stops = λ name k full. plainly k (Calls (Stop name) ∷ []) (tt, tt);
@@ -561,6 +576,7 @@ steps_keep = record {
   takes_back = λ source k. plainly k (Calls (SetDelay source UNKNOWN_DELAY) ∷ []) (tt, tt);
   tunes = λ constants k within. plainly k (Calls (Tune constants) ∷ []) (tt, tt);
   draws = draws_keep;
+  drawn = drawn_keep;
   measured = λ micros k. quietly k [] _ (plain_nothing [] k.host tt) refl refl refl refl;
   told = told_keep;
   takes_up = takes_up_keep;

@@ -6,7 +6,7 @@ use Rattle.wb_codec.specs.declared.datagram.Datagram.TheVariants.{Draw}
 use Rattle.wb_member.specs.Lines.{IsOfPolicy}
 use Rattle.wb_member.specs.declared.calls.Call.{Call}
 use Rattle.wb_member.specs.declared.calls.Call.TheVariants.{Tick}
-use Rattle.wb_keeping.specs.Kept.{Arrives, Calls, Line, Says, drawing, ends_full, hears, timed}
+use Rattle.wb_keeping.specs.Kept.{Arrives, Calls, Line, Says, drawing, drew, ends_full, hears, timed}
 use Rattle.wb_keeping.specs.Laws.{Added, CallsAreOfPolicies, Came, KeptLine, Ticked, Tuned, doing_of, expand}
 use Rattle.wb_keeping.specs.Performing.{Keeping, after_doing, sees}
 use Rattle.wb_keeping.proofs.EachLine.{DoesEach, Each, OfPolicy, each_both, ends_each, hears_each, then_each, timed_each}
@@ -35,7 +35,7 @@ does_made (Came now v) see p = (tt, then_each IsMade (hears v) timed (hears_each
 does_made (Ticked now) see p = (tt, timed_made (λ (lines : List Line). see (Calls (Tick now) ∷ lines)) p)
 does_made (Added now page time op) see p =
     let d = drawing (see (Calls (Tick now) ∷ [])) page time op in
-    (tt, (tt, then_each IsMade ends_full timed (ends_each IsMade of_policy) timed_made (λ (lines : List Line). see (Calls (Tick now) ∷ (Says (Draw d) ∷ lines))) p))
+    (tt, (tt, then_each IsMade ends_full timed (ends_each IsMade of_policy) timed_made (λ (lines : List Line). see (Calls (Tick now) ∷ (Says (Draw d) ∷ lines))) (drew d (see (Calls (Tick now) ∷ [])) p)))
 does_made (Tuned constants) see p = (tt, tt)
 
 all_made : (lines : List KeptLine) (k : Keeping) → Each IsMade (expand lines k)

@@ -98,16 +98,16 @@ is_some_level (Some a) = refl
 pub stands_asked : (host : Opened) (name : NameValue) → is_asked_by (view_of host) name ≡ true → Stands host name
 stands_asked host name asked = sym (ap is_some (level_seen host name) ∙ is_some_level (timers_of host.is.constants (events host) name).ask) ∙ asked
 
-no_more_stand : (one other : Opened) → ((n : NameValue) → Stands other n → Stands one n) → timer_count other ≤ timer_count one
+pub no_more_stand : (one other : Opened) → ((n : NameValue) → Stands other n → Stands one n) → timer_count other ≤ timer_count one
 no_more_stand one other stood = as_many (asked_names other) (asked_names one) (listed other).rising (λ z c. ((listed one).members z).1 (stood z (((listed other).members z).0 c)))
 
-one_less_stands : (one other : Opened) (x : NameValue) → Stands one x → ((n : NameValue) → Stands other n → Stands one n × (same_name x n ≡ false)) → timer_count other < timer_count one
+pub one_less_stands : (one other : Opened) (x : NameValue) → Stands one x → ((n : NameValue) → Stands other n → Stands one n × (same_name x n ≡ false)) → timer_count other < timer_count one
 one_less_stands one other x stands stood =
     let lt = shorter x (asked_names one) (((listed one).members x).1 stands) in
     let rest = as_many (asked_names other) (without x (asked_names one)) (listed other).rising (λ z c. let s = stood z (((listed other).members z).0 c) in Contains-filter (λ n. not (same_name x n)) (asked_names one) z (((listed one).members z).1 s.0) (ap not s.1)) in
     omega (arith, lt, rest)
 
-one_more_stands : (one other : Opened) (x : NameValue) → ((n : NameValue) → Stands other n → (x ≡ n) ⊎ Stands one n) → timer_count other ≤ timer_count one + 1
+pub one_more_stands : (one other : Opened) (x : NameValue) → ((n : NameValue) → Stands other n → (x ≡ n) ⊎ Stands one n) → timer_count other ≤ timer_count one + 1
 one_more_stands one other x stood =
     let le = as_many (asked_names other) (x ∷ asked_names one) (listed other).rising (λ z c.
     ⊎_elim (λ (e : x ≡ z). subst (λ (n : NameValue). Contains (x ∷ asked_names one) n) e (Contains-here x (asked_names one))) (λ (s : Stands one z). Contains-there x z (asked_names one) (((listed one).members z).1 s)) (stood z (((listed other).members z).0 c))) in
@@ -189,7 +189,7 @@ one_less name host stands = one_less_stands host (after_line (Calls (calls.Stop 
     let missed = come n name (events host) (subst (λ (b : Bool). IsMissed n (given_up (present host) name b (events host))) stands (missed_from (after_line (Calls (calls.Stop name)) host) n there)) in
     (missed_to host n missed.0, missed.1))
 
-asked_or : (n name : NameValue) (calls : List Event) → (same_name name n || since (notices n) (arrives n) calls) ≡ true → (name ≡ n) ⊎ IsMissed n calls
+pub asked_or : (n name : NameValue) (calls : List Event) → (same_name name n || since (notices n) (arrives n) calls) ≡ true → (name ≡ n) ⊎ IsMissed n calls
 asked_or n name calls e = by (same_name name n) refl e where
   by : (b : Bool) → same_name name n ≡ b → (b || since (notices n) (arrives n) calls) ≡ true → (name ≡ n) ⊎ IsMissed n calls
   by true same e = inl (same_name-is name n same)

@@ -1,6 +1,6 @@
 -- A name that is wanted.
 use Rattle.std.proofs.Common.{◌≡◌, ℕ, zero, suc, Bool, true, false, cond, List, [], ◌∷◌, ◌++◌, ◌∙◌, ap, arith, length, length-append, refl, sym, true≢false}
-use Rattle.std.specs.Prelude.{Option, Some, nat_lt, nat_eq}
+use Rattle.std.specs.Prelude.{Option, Some, ◌&&◌, ◌||◌, nat_lt, nat_eq, not}
 use Rattle.std.proofs.lemmas.Bool.{lt-ltb, ne_eqb}
 use Rattle.wb_names.specs.Values.{NameValue}
 use Rattle.wb_names.specs.History.{highest}
@@ -8,7 +8,7 @@ use Rattle.wb_gaps.specs.Holes.{hole_after}
 use Rattle.wb_gaps.specs.declared.holes.Hole.{Hole}
 use Rattle.wb_policy.specs.Choices.{near_names}
 use Rattle.wb_member.specs.declared.calls.Call.TheVariants.{SetDelay, Ask, Stop}
-use Rattle.wb_keeping.specs.Kept.{Doing, Line, and_then, end, is_begun, leap, leap_to, leaps_on, learned, measures, paid_for, performs, room_lines, still, stops_one, turn, turn_if, turn_to, turns_on, want, want_near, lending, Calls}
+use Rattle.wb_keeping.specs.Kept.{Doing, Line, and_then, covers, end, is_begun, leap, leap_to, leaps_on, learned, measures, paid_for, performs, room_lines, still, stops_one, turn, turn_if, turn_to, turns_on, want, want_near, lending, Calls}
 use Rattle.wb_policy.specs.Delays.{bounded}
 use Rattle.wb_recovery.specs.declared.limits.TheConstants.{UNKNOWN_DELAY}
 use Rattle.wb_policy.specs.Policy.{Policy, after_wanting, after_echo}
@@ -16,7 +16,7 @@ use Rattle.wb_keeping.proofs.NearNames.{near_wanted}
 use Rattle.wb_keeping.specs.Views.{View, holds, is_asked, is_full, level, is_known}
 use Rattle.wb_keeping.specs.Steps.{AreNear, leap_in, makes_room, performs_all, want_in}
 use Rattle.wb_policy.specs.Turns.{nowhere}
-use Rattle.wb_policy.specs.Wanting.{giving_way, is_wanted}
+use Rattle.wb_policy.specs.Wanting.{giving_way, goes_on, is_paid, is_wanted}
 
 -- ---- a line to which a delay is lent, and those before it and behind it
 
@@ -34,15 +34,26 @@ lending_parts source delay usual line = by (nat_eq delay UNKNOWN_DELAY) where
 
 -- ---- a name that is wanted
 
+-- it is lacked, there is room, no timer goes on, and there is credit
+wanted_parts : (held full on paid : Bool) → (not held && (not full && (not on && paid))) ≡ true → (held ≡ false) × (full ≡ false) × (on ≡ false) × (paid ≡ true)
+wanted_parts false false false true e = (refl, refl, refl, refl)
+wanted_parts false false false false e = absurd (true≢false (sym e))
+wanted_parts false false true paid e = absurd (true≢false (sym e))
+wanted_parts false true on paid e = absurd (true≢false (sym e))
+wanted_parts true full on paid e = absurd (true≢false (sym e))
+
 module _ (name : NameValue) (anew : Bool) (see : List Line → View) (p : Policy) where
   abbrev pub is_wanted_here : Bool
-  is_wanted_here = is_wanted (holds (see []) name) (is_full (see [])) anew (is_known (see []) name.source) (level (see []) name) p.owed (see []).now
+  is_wanted_here = is_wanted (holds (see []) name) (is_full (see [])) anew (is_known (see []) name.source) (level (see []) name) (length (see []).asked) p.owed (see []).now
 
   abbrev pub lines_wanted : List Line
-  lines_wanted = room_lines name (see []) ++ lending name.source ((see []).delay name.source) p.usual (Calls (Ask name))
+  lines_wanted = room_lines name (covers (see []) p) (see []) ++ lending name.source ((see []).delay name.source) p.usual (Calls (Ask name))
 
   abbrev wanted : Doing
   wanted = record { policy = after_wanting (see []).now p; lines = lines_wanted }
+
+  pub parts_wanted : is_wanted_here ≡ true → let v = see [] in (holds v name ≡ false) × (is_full v ≡ false) × (goes_on anew (covers v p) (level v name) ≡ false) × (is_paid (anew || is_known v name.source) p.owed v.now ≡ true)
+  parts_wanted e = let v = see [] in wanted_parts (holds v name) (is_full v) (goes_on anew (covers v p) (level v name)) (is_paid (anew || is_known v name.source) p.owed v.now) e
 
   pub is_asked_for : is_wanted_here ≡ true → want name anew see p ≡ wanted
   is_asked_for e = ap (λ (b : Bool). cond b wanted (still see p)) e
@@ -55,7 +66,7 @@ module _ (name : NameValue) (anew : Bool) (see : List Line → View) (p : Policy
   some_lines one false first line last = let a = length-append one (line ∷ []) in lt-ltb _ _ (omega (arith, a))
 
   pub begun : is_wanted_here ≡ true → is_begun (want name anew see p) ≡ true
-  begun e = ap is_begun (is_asked_for e) ∙ some_lines (room_lines name (see [])) (nat_eq ((see []).delay name.source) UNKNOWN_DELAY) _ _ _
+  begun e = ap is_begun (is_asked_for e) ∙ some_lines (room_lines name (covers (see []) p) (see [])) (nat_eq ((see []).delay name.source) UNKNOWN_DELAY) _ _ _
 
   pub not_begun : is_begun (want name anew see p) ≡ false → want name anew see p ≡ still see p
   not_begun e = by is_wanted_here refl where
@@ -65,15 +76,15 @@ module _ (name : NameValue) (anew : Bool) (see : List Line → View) (p : Policy
 
 -- ---- room
 
-module _ (name : NameValue) (see : List Line → View) (p : Policy) where
+module _ (name : NameValue) (covered : Bool) (see : List Line → View) (p : Policy) where
   abbrev lines_to : List Line → Doing
   lines_to lines = record { policy = p; lines = lines }
 
-  pub room_asked : is_asked (see []) name ≡ true → makes_room name see p ≡ performs (Calls (Stop name)) see p
-  room_asked e = ap (λ (b : Bool). lines_to (cond b (Calls (Stop name) ∷ []) (stops_one (giving_way (see []).asked)))) e
+  pub room_asked : is_asked (see []) name ≡ true → makes_room name covered see p ≡ performs (Calls (Stop name)) see p
+  room_asked e = ap (λ (b : Bool). lines_to (cond b (Calls (Stop name) ∷ []) (stops_one (giving_way covered (see []).asked)))) e
 
-  pub room_made : is_asked (see []) name ≡ false → makes_room name see p ≡ performs_all (stops_one (giving_way (see []).asked)) see p
-  room_made e = ap (λ (b : Bool). lines_to (cond b (Calls (Stop name) ∷ []) (stops_one (giving_way (see []).asked)))) e
+  pub room_made : is_asked (see []) name ≡ false → makes_room name covered see p ≡ performs_all (stops_one (giving_way covered (see []).asked)) see p
+  room_made e = ap (λ (b : Bool). lines_to (cond b (Calls (Stop name) ∷ []) (stops_one (giving_way covered (see []).asked)))) e
 
 -- ---- a drawop that is new
 
@@ -162,6 +173,6 @@ measured sender delay micros near see p d n ne =
     ∙ ap (λ (b : Bool). let d : Doing = record { policy = after_echo micros p; lines = cond b [] (Calls (SetDelay sender (bounded micros)) ∷ []) } in d) (ne_eqb (bounded micros) micros (λ e. ne (n ∙ e)))
     ∙ ap (λ (m : ℕ). let d : Doing = record { policy = after_echo micros p; lines = Calls (SetDelay sender m) ∷ [] } in d) (sym n)
 
-pub same_wanted : (held here full room anew known told : Bool) (old new : Option ℕ) (owed due then now : ℕ) → held ≡ here → full ≡ room → known ≡ told → old ≡ new → owed ≡ due → then ≡ now
-    → is_wanted held full anew known old owed then ≡ is_wanted here room anew told new due now
-same_wanted held here full room anew known told old new owed due then now h f k l o n = λ i. is_wanted (h i) (f i) anew (k i) (l i) (o i) (n i)
+pub same_wanted : (held here full room anew known told : Bool) (old new : Option ℕ) (those these owed due then now : ℕ) → held ≡ here → full ≡ room → known ≡ told → old ≡ new → those ≡ these → owed ≡ due → then ≡ now
+    → is_wanted held full anew known old those owed then ≡ is_wanted here room anew told new these due now
+same_wanted held here full room anew known told old new those these owed due then now h f k l a o n = λ i. is_wanted (h i) (f i) anew (k i) (l i) (a i) (o i) (n i)

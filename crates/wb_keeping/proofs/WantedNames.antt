@@ -27,16 +27,15 @@ use Rattle.wb_member.specs.Opened.{Opened, doing as doing_act, events, has_room_
 use Rattle.wb_member.specs.Random.{word_of, words_of}
 use Rattle.wb_member.specs.declared.calls.Call.TheVariants.{Tick, Hear, SetDelay, Tune, Look, Ask, Stop}
 use Rattle.wb_member.proofs.KeptBoards.{calls_keep_boards}
-use Rattle.wb_keeping.specs.Fairness.{OnlyHeldIsAnswered, WantedIsAsked, is_answering}
+use Rattle.wb_keeping.specs.Fairness.{AnswersWhatIsHeld, OnlyHeldIsAnswered, WantedIsAsked, is_answering}
 use Rattle.wb_recovery.specs.declared.limits.TheConstants.{UNKNOWN_DELAY}
-use Rattle.wb_keeping.specs.Kept.{Arrives, Doing, Line, Says, room_lines, still, stops_one, lending, Calls}
-use Rattle.wb_keeping.specs.Performing.{after_line, after_lines, sees, view_of}
-use Rattle.wb_policy.specs.Policy.{after_wanting}
+use Rattle.wb_keeping.specs.Kept.{Arrives, Doing, Line, Says, covers, room_lines, stops_one, want, lending, Calls}
+use Rattle.wb_keeping.specs.Performing.{Keeping, after_doing, after_line, after_lines, sees, view_of}
 use Rattle.wb_keeping.specs.Views.{View, is_asked, is_full, level, is_known}
-use Rattle.wb_policy.specs.Wanting.{giving_way, goes_on, is_paid, is_wanted}
+use Rattle.wb_policy.specs.Wanting.{giving_way, goes_on, is_paid}
 use Rattle.wb_keeping.proofs.AskedTimers.{level_seen}
-use Rattle.wb_keeping.proofs.EachStep.{doing}
 use Rattle.wb_keeping.proofs.Performed.{after_both}
+use Rattle.wb_keeping.proofs.Wanted.{is_asked_for, is_not_asked_for, is_wanted_here, parts_wanted}
 use Rattle.wb_keeping.proofs.StandingTimers.{Stands, come, is_some_level, keeps, missed_from, missed_to, stands_asked}
 use Rattle.wb_keeping.proofs.EachLine.{Each, one_each, room_each}
 
@@ -159,7 +158,7 @@ IsSetting line = ⊥
 abbrev pub AreSettings : List Line → Type 0
 AreSettings lines = Each IsSetting lines
 
-settings_hold : (lines : List Line) (host : Opened) → AreSettings lines → (after_lines lines host).is.held ≡ host.is.held
+pub settings_hold : (lines : List Line) (host : Opened) → AreSettings lines → (after_lines lines host).is.held ≡ host.is.held
 settings_hold [] host small = refl
 settings_hold (Arrives d ∷ lines) host small = absurd small.0
 settings_hold (Calls call ∷ lines) host small = settings_hold lines (after_line (Calls call) host) small.1 ∙ ap (λ (board : Held). board.drawops) (calls_keep_boards call host).board
@@ -175,10 +174,10 @@ settings_stand (Calls call ∷ lines) host n small stands = absurd small.0
 settings_stand (Says v ∷ lines) host n small stands = absurd small.0
 
 -- behind the lines that make room, no request timer of the name stands
-room_clears : (name : NameValue) (host : Opened) → Stands (after_lines (room_lines name (view_of host)) host) name → ⊥
-room_clears name host = by (is_asked (view_of host) name) refl where
+pub room_clears : (name : NameValue) (covered : Bool) (host : Opened) → Stands (after_lines (room_lines name covered (view_of host)) host) name → ⊥
+room_clears name covered host = by (is_asked (view_of host) name) refl where
   lines_by : Bool → List Line
-  lines_by a = cond a (Calls (Stop name) ∷ []) (stops_one (giving_way (view_of host).asked))
+  lines_by a = cond a (Calls (Stop name) ∷ []) (stops_one (giving_way covered (view_of host).asked))
 
   away : is_asked (view_of host) name ≡ false → Stands host name → ⊥
   away e stands = true≢false (sym (ap is_some (level_seen host name) ∙ is_some_level (timers_of host.is.constants (events host) name).ask ∙ stands) ∙ e)
@@ -190,10 +189,10 @@ room_clears name host = by (is_asked (view_of host) name) refl where
       let came = come name name (events host) (subst (λ (b : Bool). since (notices name) (arrives name) (given_up (present host) name b (events host)) ≡ true) asked missed) in
       true≢false (sym (same_name-itself name) ∙ came.1)
   by false e stands =
-      let first = giving_way (view_of host).asked in
+      let first = giving_way covered (view_of host).asked in
       away e (settings_stand (stops_one first) host name (one_each IsSetting (λ name. tt) first) stands)
 
-asks_stand : (name : NameValue) (host : Opened) → holds host.is.held name ≡ false → (Stands host name → ⊥) → (is_answering host name ≡ true → ⊥) → Stands (after_line (Calls (Ask name)) host) name
+pub asks_stand : (name : NameValue) (host : Opened) → holds host.is.held name ≡ false → (Stands host name → ⊥) → (is_answering host name ≡ true → ⊥) → Stands (after_line (Calls (Ask name)) host) name
 asks_stand name host lacks unasked unanswered =
     let s = timers_of host.is.constants (events host) name in
     let may : may_ask name host ≡ true =
@@ -217,38 +216,49 @@ lent_stands source delay usual name host lacks unasked unanswered = by (nat_eq d
       let one = after_line (Calls (SetDelay source usual)) host in
       asked_at (after_line (Calls (SetDelay source UNKNOWN_DELAY)) (after_line (Calls (Ask name)) one)) (asks_stand name one lacks unasked unanswered)
 
-wanted_or : (full on credit : Bool) → full ≡ false → credit ≡ true → (not full && (not on && credit)) ≡ false → on ≡ true
-wanted_or false true true a b e = refl
-wanted_or false false true a b e = absurd (true≢false e)
-wanted_or false on false a b e = absurd (true≢false (sym b))
-wanted_or true on credit a b e = absurd (true≢false a)
+-- where it is wanted, its timer stands then
+pub is_asked_then : (name : NameValue) (anew : Bool) (k : Keeping) → AnswersWhatIsHeld k.host → is_wanted_here name anew (sees k.host) k.policy ≡ true → is_asked (view_of (after_doing (want name anew) k).host) name ≡ true
+is_asked_then name anew k answers e =
+    let lacks = (parts_wanted name anew (sees k.host) k.policy e).0 in
+    let lacks_then : holds one.is.held name ≡ false = ap (λ (h : List DrawopValue). holds h name) (settings_hold first k.host (room_each IsSetting (λ name. tt) name (covers v k.policy) v)) ∙ lacks in
+    let unanswered : is_answering one name ≡ true → ⊥ = λ is. true≢false (sym (lines_answer_held name first k.host (answers name) is) ∙ lacks_then) in
+    ap (λ (d : Doing). is_asked (view_of (after_lines d.lines k.host)) name) (is_asked_for name anew (sees k.host) k.policy e)
+    ∙ subst (λ (h : Opened). is_asked (view_of h) name ≡ true) (sym (after_both first last k.host))
+    (lent_stands name.source (v.delay name.source) k.policy.usual name one lacks_then (room_clears name (covers v k.policy) k.host) unanswered) where
+      v : View
+      v = view_of k.host
 
-went_on : (anew : Bool) (o : Option ℕ) → goes_on anew o ≡ true → is_some o ≡ true
-went_on anew None e = absurd (true≢false (sym e))
-went_on anew (Some n) e = refl
+      first : List Line
+      first = room_lines name (covers v k.policy) v
+
+      last : List Line
+      last = lending name.source (v.delay name.source) k.policy.usual (Calls (Ask name))
+
+      one : Opened
+      one = after_lines first k.host
+
+wanted_or : (held full on credit : Bool) → held ≡ false → full ≡ false → credit ≡ true → (not held && (not full && (not on && credit))) ≡ false → on ≡ true
+wanted_or false false true true h a b e = refl
+wanted_or false false false true h a b e = absurd (true≢false e)
+wanted_or false false on false h a b e = absurd (true≢false (sym b))
+wanted_or false true on credit h a b e = absurd (true≢false a)
+wanted_or true full on credit h a b e = absurd (true≢false h)
+
+went_on : (anew covered : Bool) (o : Option ℕ) → goes_on anew covered o ≡ true → is_some o ≡ true
+went_on anew covered None e = absurd (true≢false (sym e))
+went_on anew covered (Some n) e = refl
 
 pub wanted_is_asked : WantedIsAsked
-wanted_is_asked name anew k answers lacks room credit = by (is_wanted (holds k.host.is.held name) (is_full v) anew (is_known v name.source) (level v name) k.policy.owed (present k.host)) refl where
+wanted_is_asked name anew k answers lacks room credit = by (is_wanted_here name anew (sees k.host) k.policy) refl where
   v : View
   v = view_of k.host
 
-  first : List Line
-  first = room_lines name v
+  on : Bool
+  on = goes_on anew (covers v k.policy) (level v name)
 
-  last : List Line
-  last = lending name.source (v.delay name.source) k.policy.usual (Calls (Ask name))
-
-  wanted : Doing
-  wanted = doing (after_wanting (present k.host) k.policy) (first ++ last)
-
-  one : Opened
-  one = after_lines first k.host
-
-  by : (b : Bool) → is_wanted (holds k.host.is.held name) (is_full v) anew (is_known v name.source) (level v name) k.policy.owed (present k.host) ≡ b → is_asked (view_of (after_lines (cond b wanted (still (sees k.host) k.policy)).lines k.host)) name ≡ true
-  by false e = went_on anew (level v name) (wanted_or (is_full v) (goes_on anew (level v name)) (is_paid (anew || is_known v name.source) k.policy.owed (present k.host)) room credit (ap (λ (b : Bool). not b && (not (is_full v) && (not (goes_on anew (level v name)) && is_paid (anew || is_known v name.source) k.policy.owed (present k.host)))) (sym lacks) ∙ e))
-  by true e =
-      let held : one.is.held ≡ k.host.is.held = settings_hold first k.host (room_each IsSetting (λ name. tt) name v) in
-      let lacks_then : holds one.is.held name ≡ false = ap (λ (h : List DrawopValue). holds h name) held ∙ lacks in
-      let unanswered : is_answering one name ≡ true → ⊥ = λ is. true≢false (sym (lines_answer_held name first k.host (answers name) is) ∙ lacks_then) in
-      subst (λ (h : Opened). is_asked (view_of h) name ≡ true) (sym (after_both first last k.host))
-      (lent_stands name.source (v.delay name.source) k.policy.usual name one lacks_then (room_clears name k.host) unanswered)
+  by : (b : Bool) → is_wanted_here name anew (sees k.host) k.policy ≡ b → is_asked (view_of (after_doing (want name anew) k).host) name ≡ true
+  by true e = is_asked_then name anew k answers e
+  by false e =
+      ap (λ (d : Doing). is_asked (view_of (after_lines d.lines k.host)) name) (is_not_asked_for name anew (sees k.host) k.policy e)
+      ∙ went_on anew (covers v k.policy) (level v name)
+      (wanted_or (holds k.host.is.held name) (is_full v) on (is_paid (anew || is_known v name.source) k.policy.owed (present k.host)) lacks room credit e)

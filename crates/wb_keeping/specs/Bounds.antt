@@ -1,9 +1,9 @@
 -- Bounds on what a self-managing host asks for and says, whatever comes in.
-use Rattle.std.specs.Prelude.{◌≡◌, ℕ, ◌+◌, ◌-◌, ◌*◌, ◌/◌, ◌≤◌, Bool, true, false, not, ◌&&◌, List, [], ◌∷◌, ◌++◌, Contains, filter, length, map, take, if◌then◌else◌}
+use Rattle.std.specs.Prelude.{◌≡◌, ◌⊎◌, ℕ, ◌+◌, ◌-◌, ◌*◌, ◌/◌, ◌<◌, ◌≤◌, Bool, true, false, not, ◌&&◌, List, [], ◌∷◌, ◌++◌, Contains, filter, length, map, take, if◌then◌else◌}
 use Rattle.wb_names.specs.Orders.{same_name}
 use Rattle.wb_names.specs.Values.{NameValue}
 use Rattle.wb_codec.specs.declared.datagram.Datagram.{Datagram}
-use Rattle.wb_codec.specs.declared.datagram.Datagram.TheVariants.{Session, Request, AskPages, PageState}
+use Rattle.wb_codec.specs.declared.datagram.Datagram.TheVariants.{Draw, Session, Request, AskPages, PageState}
 use Rattle.wb_recovery.specs.Timing.{are_constants}
 use Rattle.wb_recovery.specs.declared.tuning.Tuning.{Tuning}
 use Rattle.wb_member.specs.Judged.{asked_names}
@@ -11,12 +11,12 @@ use Rattle.wb_member.specs.Opened.{Opened, opened_with, present}
 use Rattle.wb_member.specs.declared.calls.Call.TheVariants as calls
 use Rattle.wb_recovery.specs.declared.limits.TheConstants.{MOST_TIMERS}
 use Rattle.wb_policy.specs.declared.limits.TheConstants.{COST, FIRST_WAIT, LEAST_DELAY, MOST_PAGES, PAYS, PLACES, QUIET, SHORTEST_PAUSE}
-use Rattle.wb_keeping.specs.Kept.{Line, Arrives, Says, Calls, ticks_at}
+use Rattle.wb_keeping.specs.Kept.{Line, Arrives, Says, Calls, ticks_at, want}
 use Rattle.wb_keeping.specs.Calls.{KeptLine}
 use Rattle.wb_keeping.specs.Laws.{AreTaken, after_kept, expand}
-use Rattle.wb_keeping.specs.Performing.{Keeping, after_line, after_lines, sent_by_line, sent_by_lines, view_of}
+use Rattle.wb_keeping.specs.Performing.{Keeping, after_doing, after_line, after_lines, sent_by_line, sent_by_lines, view_of}
 use Rattle.wb_policy.specs.Policy.{Policy}
-use Rattle.wb_keeping.specs.Views.{holds, is_asked}
+use Rattle.wb_keeping.specs.Views.{holds, is_asked, is_full}
 use Rattle.wb_keeping.specs.declared.limits.TheConstants.{MINUTES, MOST_REQUESTS}
 
 -- ---- timers
@@ -82,21 +82,43 @@ is_ask line = false
 abbrev pub ask_count : List Line → ℕ
 ask_count lines = length (filter is_ask lines)
 
--- a line brings a drawop that is not held yet, and was asked for
+-- a line brings a drawop that is not held yet, and was asked for, or its user draws what was
 abbrev pub is_answer : Line → Opened → Bool
 is_answer (Arrives d) host = not (holds (view_of host) d.name) && is_asked (view_of host) d.name
+is_answer (Says (Draw d)) host = is_asked (view_of host) d.name
 is_answer line host = false
 
--- how many such drawops some lines bring
+-- how many such drawops there are in some lines
 abbrev pub answer_count : List Line → Opened → ℕ
 answer_count [] host = 0
 answer_count (line ∷ lines) host = (if is_answer line host then 1 else 0) + answer_count lines (after_line line host)
 
 -- Whatever comes in, a host asks from one moment to another for at most 64 names, for one more in each quarter of a second, and for
--- two more for each that it asked for and that came.
+-- two more for each that it asked for and that came or that its user drew.
 abbrev pub FewNamesAreAsked : Type 0
 FewNamesAreAsked = (lines : List KeptLine) (k : Keeping) → AreTaken lines k
     → ask_count (expand lines k) * COST ≤ (PLACES + PAYS * answer_count (expand lines k) k.host) * COST + (present (after_kept lines k).host - present k.host)
+
+-- ---- what is owed
+
+-- The board is full, or no more is owed than stands asked: of the names that were asked for, no more are to be paid for than request timers stand.
+abbrev pub NoMoreIsOwed : Keeping → Type 0
+NoMoreIsOwed k = (is_full (view_of k.host) ≡ true) ⊎ (k.policy.owed ≤ present k.host + timer_count k.host * COST)
+
+-- So it is after each call, whatever comes in, if nothing is owed at first.
+abbrev pub OwedStands : Type 0
+OwedStands = (constants : Tuning) (number cells seed : ℕ) (moments : List ℕ) (policy : Policy) (lines : List KeptLine)
+    → let start = new_keeping constants number cells seed moments policy in
+    policy.owed ≤ present start.host → AreTaken lines start → NoMoreIsOwed (after_kept lines start)
+
+-- So while fewer than 64 request timers stand, nothing is refused for want of credit: a name that is reported, has its turn, or is that of a leap has a
+-- request timer then, unless it is held or the board is full.
+abbrev pub FewAreNotRefused : Type 0
+FewAreNotRefused = (constants : Tuning) (number cells seed : ℕ) (moments : List ℕ) (policy : Policy) (lines : List KeptLine) (name : NameValue)
+    → let start = new_keeping constants number cells seed moments policy in
+    let k = after_kept lines start in
+    policy.owed ≤ present start.host → AreTaken lines start → timer_count k.host < MOST_TIMERS → holds (view_of k.host) name ≡ false → is_full (view_of k.host) ≡ false
+    → is_asked (view_of (after_doing (want name true) k).host) name ≡ true
 
 -- ---- what is said
 

@@ -18,12 +18,13 @@ use Rattle.wb_policy.specs.Delays.{bounded}
 use Rattle.wb_recovery.specs.declared.limits.TheConstants.{MOST_TIMERS, UNKNOWN_DELAY}
 use Rattle.wb_policy.specs.declared.limits.TheConstants.{MOST_PAGES}
 use Rattle.wb_keeping.specs.Drawings.{drawing_time}
-use Rattle.wb_policy.specs.Policy.{Policy, after_answer, after_beat, after_came, after_leaping, after_question, after_report, after_state, after_taking_up, after_turn, after_wanting, in_next_leaps, in_next_round, after_echo}
+use Rattle.wb_policy.specs.Policy.{Policy, after_answer, after_beat, after_came, after_drawing, after_leaping, after_question, after_report, after_state, after_taking_up, after_turn, after_wanting, in_next_leaps, in_next_round, after_echo}
 use Rattle.wb_keeping.specs.Views.{View, holds, is_asked, is_full, level, is_known}
 use Rattle.wb_policy.specs.Leaps.{far_name}
 use Rattle.wb_policy.specs.Questions.{is_due, is_to_answer}
 use Rattle.wb_policy.specs.Reports.{members_in, page_after, rest_after, slice_after, report_bytes}
 use Rattle.wb_policy.specs.Turns.{name_in, nowhere}
+use Rattle.wb_policy.specs.Credit.{is_covered}
 use Rattle.wb_policy.specs.Wanting.{giving_way, is_wanted, passes_on}
 use Rattle.wb_policy.specs.declared.wanting.AskedName.{AskedName}
 
@@ -37,9 +38,13 @@ abbrev pub stops_one : Option AskedName → List Line
 stops_one None = []
 stops_one (Some a) = Calls (Stop a.name) ∷ []
 
--- A timer that starts anew is stopped first, and for another name the oldest one gives way. So at most 64 stand.
-abbrev pub room_lines : NameValue → View → List Line
-room_lines name v = if is_asked v name then Calls (Stop name) ∷ [] else stops_one (giving_way v.asked)
+-- A timer that starts anew is stopped first, and for another name the oldest one may give way. So at most 64 stand.
+abbrev pub room_lines : NameValue → Bool → View → List Line
+room_lines name covered v = if is_asked v name then Calls (Stop name) ∷ [] else stops_one (giving_way covered v.asked)
+
+-- less is owed than stands asked
+abbrev pub covers : View → Policy → Bool
+covers v p = is_covered (length v.asked) p.owed v.now
 
 -- A source that told no delay has the usual one for one line: it is lent, and then taken back.
 abbrev pub lending : ℕ → ℕ → ℕ → Line → List Line
@@ -68,8 +73,8 @@ and_then first second see p =
 abbrev pub want : NameValue → Bool → Transition
 want name anew see p =
     let v = see [] in
-    if is_wanted (holds v name) (is_full v) anew (is_known v name.source) (level v name) p.owed v.now
-    then record { policy = after_wanting v.now p; lines = room_lines name v ++ lending name.source (v.delay name.source) p.usual (Calls (Ask name)) }
+    if is_wanted (holds v name) (is_full v) anew (is_known v name.source) (level v name) (length v.asked) p.owed v.now
+    then record { policy = after_wanting v.now p; lines = room_lines name (covers v p) v ++ lending name.source (v.delay name.source) p.usual (Calls (Ask name)) }
     else still see p
 
 -- whoever reports a number holds it
@@ -277,12 +282,19 @@ ticks now = and_then (performs (Calls (Tick now))) timed
 abbrev pub ends_full : Transition
 ends_full see p = if is_full (see []) then end see p else still see p
 
+-- what its user drew pays as what came, if it was asked for
+abbrev pub drew : DrawopValue → View → Policy → Policy
+drew d v p = if is_asked v d.name then after_drawing p else p
+
+abbrev pub draws : DrawopValue → Transition
+draws d see p = performs (Says (Draw d)) see (drew d (see []) p)
+
 -- its next drawing on a page
 abbrev pub drawing : View → PageId → ℕ → Op → DrawopValue
 drawing v page time op = record { name = name_of page v.me (v.known page + 1); time = drawing_time v.held page time; op = op }
 
 abbrev pub draws_it : PageId → ℕ → Op → Transition
-draws_it page time op see p = performs (Says (Draw (drawing (see []) page time op))) see p
+draws_it page time op see p = draws (drawing (see []) page time op) see p
 
 abbrev pub adds : ℕ → PageId → ℕ → Op → Transition
 adds now page time op = and_then (performs (Calls (Tick now))) (and_then (draws_it page time op) (and_then ends_full timed))

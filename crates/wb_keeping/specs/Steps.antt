@@ -1,5 +1,5 @@
 -- The parts of a transition, as a member performs them one by one.
-use Rattle.std.specs.Prelude.{◌≡◌, ◌⊎◌, ℕ, ◌-◌, true, max, All, IsTrue, List, [], ◌∷◌, Option, Some, None, nat_eq, if◌then◌else◌}
+use Rattle.std.specs.Prelude.{◌≡◌, ◌⊎◌, Bool, ℕ, ◌-◌, true, max, All, IsTrue, List, [], ◌∷◌, Option, Some, None, nat_eq, if◌then◌else◌}
 use Rattle.wb_names.specs.History.{highest}
 use Rattle.wb_names.specs.Values.{NameValue}
 use Rattle.wb_gaps.specs.Holes.{hole_after}
@@ -29,8 +29,8 @@ abbrev pub performs_all : List Line → Transition
 performs_all lines see p = record { policy = p; lines = lines }
 
 -- there is room for the timer of a name
-abbrev pub makes_room : NameValue → Transition
-makes_room name see p = record { policy = p; lines = room_lines name (see []) }
+abbrev pub makes_room : NameValue → Bool → Transition
+makes_room name covered see p = record { policy = p; lines = room_lines name covered (see []) }
 
 -- what is lent to a source whose delay is this one, and the lines that lend it and take it back
 abbrev pub lent_at : ℕ → ℕ → Option ℕ

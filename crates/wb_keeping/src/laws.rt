@@ -2,7 +2,7 @@
 //! nothing: each stands here for its clause.
 
 ghost use Rattle.std.specs.Prelude.{◌≡◌};
-ghost use Rattle.wb_keeping.specs.Bounds.{FewNamesAreAsked, FewRequestsAtOnce, FewTimersStand, LittleIsSaid, NamesAreSeldomRequested};
+ghost use Rattle.wb_keeping.specs.Bounds.{FewAreNotRefused, FewNamesAreAsked, FewRequestsAtOnce, FewTimersStand, LittleIsSaid, NamesAreSeldomRequested, OwedStands};
 ghost use Rattle.wb_keeping.specs.Fairness.{OnlyHeldIsAnswered, ReportsTell, TurnsAreTaken, WantedIsAsked};
 ghost use Rattle.wb_keeping.specs.Laws.{ANumberIsLeft, CallsAreOfPolicies, DrawingIsNotLocked, KeptHostsAreHosts, NothingIsDue, TimeComesFirst, WantedIsPaid};
 ghost use Rattle.wb_keeping.specs.declared.limits.TheConstants.{AHEAD, MINUTES, MOST_REQUESTS};
@@ -53,9 +53,17 @@ pub fn names_are_seldom_requested()
 
 /// Whatever comes in, a self-managing host asks from one moment to another for at most 64 names,
 /// for one more in each quarter of a second, and for two more for each that it asked for and that
-/// came.
+/// came or that its user drew.
 pub fn few_names_are_asked()
     ensures { FewNamesAreAsked }
+{}
+
+/// Whatever comes in, the board of a host that is self-managing from its opening on is full, or no
+/// more is owed than stands asked. So while fewer than 64 request timers stand, nothing that is
+/// reported, leapt to, or has its turn is refused for want of credit.
+pub fn no_more_is_owed_than_stands()
+    ensures owed { OwedStands }
+    ensures asked { FewAreNotRefused }
 {}
 
 /// Whatever comes in, its reports are a second apart or more; page states come at most 64 at once,

@@ -14,7 +14,7 @@ use Rattle.wb_member.specs.declared.calls.Call.TheVariants.{Hear, SetDelay, Ask}
 use Rattle.wb_policy.specs.Delays.{bounded}
 use Rattle.wb_recovery.specs.declared.limits.TheConstants.{UNKNOWN_DELAY}
 use Rattle.wb_policy.specs.Choices.{echoed_delay, own_echo, own_marks, told_names}
-use Rattle.wb_keeping.specs.Kept.{Arrives, Doing, Line, Transition, and_then, hears, hears_session, hears_some, hears_state, learned, measures, of_other, performs, room_lines, still, takes, takes_question, want, want_told, lending, hears_request, Calls}
+use Rattle.wb_keeping.specs.Kept.{Arrives, Doing, Line, Transition, and_then, covers, hears, hears_session, hears_some, hears_state, learned, measures, of_other, performs, room_lines, still, takes, takes_question, want, want_told, lending, hears_request, Calls}
 use Rattle.wb_keeping.specs.Performing.{Keeping, after_doing, after_line, after_lines, sees, view_of}
 use Rattle.wb_policy.specs.Policy.{Policy, after_state, after_taking_up, after_wanting, after_echo}
 use Rattle.wb_keeping.specs.Views.{View, holds, is_asked, is_full, level, is_known}
@@ -77,7 +77,7 @@ wanted_is_asked name anew see p =
     let v = see [] in
     let usual = lent_first name.source (v.delay name.source) p.usual in
     let back = taken_back name.source (v.delay name.source) in
-    Contains-append_right (room_lines name v) (lending name.source (v.delay name.source) p.usual (Calls (Ask name))) (Calls (Ask name))
+    Contains-append_right (room_lines name (covers v p) v) (lending name.source (v.delay name.source) p.usual (Calls (Ask name))) (Calls (Ask name))
     (subst (λ (ls : List Line). Contains ls (Calls (Ask name))) (sym (lending_parts name.source (v.delay name.source) p.usual (Calls (Ask name)))) (Contains-append_right usual (Calls (Ask name) ∷ back) (Calls (Ask name)) (Contains-here (Calls (Ask name)) back)))
 
 -- ---- what stays
@@ -151,7 +151,7 @@ module _ (P : NameValue → Type 0) where
   nothing_asked k = record { stays = as_it_was k; asks = tt; owed = inr refl }
 
   want_asks : (name : NameValue) (anew : Bool) (k : Keeping) → P name → At (want name anew) k
-  want_asks name anew k is = by (is_wanted (holds v name) (is_full v) anew (is_known v name.source) (level v name) k.policy.owed v.now) (want_each IsSmall are_small name anew (sees k.host) k.policy) where
+  want_asks name anew k is = by (is_wanted (holds v name) (is_full v) anew (is_known v name.source) (level v name) (length v.asked) k.policy.owed v.now) (want_each IsSmall are_small name anew (sees k.host) k.policy) where
     v : View
     v = view_of k.host
 

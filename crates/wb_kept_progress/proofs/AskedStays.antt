@@ -1,6 +1,6 @@
 -- A host that asks for a name of some kind does so after each step of a policy that asks for names of that kind alone, or it holds more then.
 use Rattle.std.proofs.Common.{◌≡◌, ℕ, ◌-◌, ◌<◌, ◌≤◌, Bool, true, false, cond, List, [], ◌∷◌, ◌++◌, ◌∙◌, None, ap, arith, inl, inr, length, refl, subst, sym, true≢false, ⊎_elim}
-use Rattle.std.specs.Prelude.{◌⊎◌, Contains, nat_eq, not, take}
+use Rattle.std.specs.Prelude.{◌⊎◌, Contains, not, take}
 use Rattle.std.proofs.lemmas.Bool.{and_parts, false_from_ne_true, not-true}
 use Rattle.std.proofs.lemmas.List.Elements.{Contains-append_cases, Contains-append_left, Contains-append_right}
 use Rattle.std.proofs.Math.Nat.{le_refl}
@@ -10,17 +10,16 @@ use Rattle.wb_names.specs.declared.parts.Op.{Op}
 use Rattle.wb_names.specs.Values.{DrawopValue, NameValue}
 use Rattle.wb_names.proofs.Listings.{Contains-here, Contains-there}
 use Rattle.wb_codec.specs.declared.datagram.Datagram.{Datagram}
-use Rattle.wb_codec.specs.declared.datagram.Datagram.TheVariants.{Draw, Session, Request, AskPages, PageState}
+use Rattle.wb_codec.specs.declared.datagram.Datagram.TheVariants.{Draw}
 use Rattle.wb_gaps.specs.Answers.{pages_of}
-use Rattle.wb_recovery.specs.Events.{Asked, Event}
 use Rattle.wb_keeper.specs.Hearing.{asks_for_held}
-use Rattle.wb_keeper.specs.Keeper.{asked_by, delay_to, holds}
+use Rattle.wb_keeper.specs.Keeper.{delay_to, holds}
 use Rattle.wb_member.specs.Judged.{is_full}
 use Rattle.wb_member.specs.Opened.{Opened, asks_for, events, has_room_for, heard, present, word_at}
 use Rattle.wb_member.specs.Lines.{IsOfPolicy}
 use Rattle.wb_member.specs.declared.calls.Call.{Call}
 use Rattle.wb_member.specs.declared.calls.Call.TheVariants.{Tick, Hear, Tune, Look, Ask}
-use Rattle.wb_policy.specs.Policy.{Policy, after_came, after_wanting}
+use Rattle.wb_policy.specs.Policy.{Policy, after_came, after_drawing, after_wanting}
 use Rattle.wb_keeping.specs.Bounds.{is_ask}
 use Rattle.wb_keeping.specs.Fairness.{AnswersWhatIsHeld}
 use Rattle.wb_keeping.specs.Kept.{Arrives, Calls, Doing, Line, Says, still, want}
@@ -31,29 +30,17 @@ use Rattle.wb_keeping.proofs.EachLine.{states_each}
 use Rattle.wb_keeping.proofs.EachStep.{HoldsOfSteps, having, having_done, line_holds, with_policy}
 use Rattle.wb_keeping.proofs.Performed.{after_both}
 use Rattle.wb_keeping.proofs.Saying.{says_after}
-use Rattle.wb_keeping.proofs.StandingTimers.{IsMissed, keeps, missed_from, missed_to}
+use Rattle.wb_keeping.proofs.StandingTimers.{keeps, missed_from, missed_to}
 use Rattle.wb_keeping.proofs.Unlocked.{not_fresh}
 use Rattle.wb_keeping.proofs.Wanted.{is_wanted_here, lines_wanted}
 use Rattle.wb_keeping.proofs.WantedNames.{lines_answer_held}
 use Rattle.wb_kept_progress.proofs.AskedInCalls.{AskFor, AskNothing, HasAsk, IsAskOf, IsMore, asked_is, longer_by_one, wanted_is_asked}
 use Rattle.wb_kept_progress.proofs.FirstLines.{AreLinesOf, IsLineOf, lines_of_call, made_in_call}
-use Rattle.wb_kept_progress.proofs.LeadingSteps.{arrival_stands, ticked_stands, want_holds, want_stands}
+use Rattle.wb_keeping.proofs.StayStanding.{arrival_stands, still_missed, ticked_stands}
+use Rattle.wb_kept_progress.proofs.LeadingSteps.{want_holds, want_stands}
 use Rattle.wb_kept_progress.proofs.Lines.{call_holds, lines_grow}
 use Rattle.wb_kept_progress.proofs.StopCauses.{room_before}
 use Rattle.wb_kept_progress.proofs.WantedIn.{IsAskedInCall}
-
--- ---- a timer that stands
-
--- it stands after a datagram was heard
-still_missed : (n : NameValue) (me now : ℕ) (delays : ℕ → ℕ) (v : Datagram) (word : ℕ) (held : Bool) (calls : List Event) → IsMissed n calls → IsMissed n (asked_by me delays now v word held calls)
-still_missed n me now delays (Request asker name) word held calls missed = by (nat_eq asker me) where
-  by : (b : Bool) → IsMissed n (cond b calls (Asked name held now (delays (cond held asker name.source)) word ∷ calls))
-  by true = missed
-  by false = missed
-still_missed n me now delays (Draw d) word held calls missed = missed
-still_missed n me now delays (Session sender sent page marks echoes) word held calls missed = missed
-still_missed n me now delays (AskPages asker) word held calls missed = missed
-still_missed n me now delays (PageState sender page marks) word held calls missed = missed
 
 -- ---- a name of a kind
 
@@ -249,7 +236,7 @@ module _ (P : NameValue → Type 0) where
     };
     ticks = λ now k later. quiet k (Calls (Tick now) ∷ []) _ refl (tt, tt) (le_refl k.policy.owed)
         (λ a. inl (record { name = a.name; is = a.is; lacks = a.lacks; asked = ticked_stands now k.host a.name a.lacks a.asked }));
-    arrives = λ d k. quiet k (Arrives d ∷ []) _ refl (tt, tt) (le_refl k.policy.owed) (λ a. arrived d k k.policy a);
+    arrives = λ d k free. quiet k (Arrives d ∷ []) _ refl (tt, tt) (le_refl k.policy.owed) (λ a. arrived d k k.policy a);
     answered = λ d k lacks asked. quiet k (Arrives d ∷ []) _ refl (tt, tt) (repaid_less k.policy.owed) (λ a. arrived d k (after_came k.policy) a);
     hears = λ v k. quiet k (Calls (Hear v) ∷ []) _ refl (tt, tt) (le_refl k.policy.owed) (λ a. inl (heard_on v k a));
     stops = λ name k full. record {
@@ -262,7 +249,8 @@ module _ (P : NameValue → Type 0) where
     lends = λ source k. quiet k _ _ refl (tt, tt) (le_refl k.policy.owed) (λ a. inl (record { name = a.name; is = a.is; lacks = a.lacks; asked = a.asked }));
     takes_back = λ source k. quiet k _ _ refl (tt, tt) (le_refl k.policy.owed) (λ a. inl (record { name = a.name; is = a.is; lacks = a.lacks; asked = a.asked }));
     tunes = λ constants k within. quiet k (Calls (Tune constants) ∷ []) _ refl (tt, tt) (le_refl k.policy.owed) (λ a. inl (record { name = a.name; is = a.is; lacks = a.lacks; asked = a.asked }));
-    draws = λ d k. quiet k _ _ refl (tt, tt) (le_refl k.policy.owed) (λ a. arrived d k k.policy a);
+    draws = λ d k unasked. quiet k _ _ refl (tt, tt) (le_refl k.policy.owed) (λ a. arrived d k k.policy a);
+    drawn = λ d k asked. quiet k _ _ refl (tt, tt) (repaid_less k.policy.owed) (λ a. arrived d k (after_drawing k.policy) a);
     measured = λ micros k. quiet k [] _ refl tt (le_refl k.policy.owed) (λ a. inl (with_other _ k a));
     told = λ k. quiet k [] _ refl tt (le_refl k.policy.owed) (λ a. inl (with_other _ k a));
     takes_up = λ k is. quiet k [] _ refl tt (le_refl k.policy.owed) (λ a. inl (with_other _ k a));

@@ -1,9 +1,9 @@
 -- A name that is asked for in a call is still asked for behind it: where another needs its timer, one that was backed off gives way.
 use Rattle.wb_progress.specs.Keepers.{constants_at}
 use Rattle.std.proofs.Common.{◌≡◌, ℕ, suc, ◌+◌, ◌-◌, ◌*◌, ◌≤◌, Bool, true, false, cond, List, [], ◌∷◌, ◌∙◌, Option, Some, None, ap, arith, inl, inr, length, map, refl, subst, sym, true≢false, ⊎_elim}
-use Rattle.std.specs.Prelude.{◌⊎◌, ◌||◌, Contains, is_none, is_some, max, nat_eq, nat_le, nat_lt, not}
+use Rattle.std.specs.Prelude.{◌⊎◌, ◌&&◌, ◌||◌, Contains, is_none, is_some, max, nat_eq, nat_le, nat_lt, not}
 use Rattle.std.specs.List.{cons_option, fold}
-use Rattle.std.proofs.lemmas.Bool.{and_parts, leb-true, ltb-false, ltb-true, or_cases, false_from_ne_true, le-leb, not-true}
+use Rattle.std.proofs.lemmas.Bool.{and_parts, leb-true, ltb-false, ltb-true, or_cases, false_from_ne_true, le-leb}
 use Rattle.wb_names.specs.Orders.{same_name}
 use Rattle.wb_names.specs.Values.{DrawopValue, NameValue}
 use Rattle.wb_names.proofs.Listings.{Contains-cases, Contains-here, Contains-none, Contains-there}
@@ -24,7 +24,7 @@ use Rattle.wb_policy.specs.Credit.{has_credit}
 use Rattle.wb_recovery.specs.declared.limits.TheConstants.{UNKNOWN_DELAY}
 use Rattle.wb_policy.specs.declared.limits.TheConstants.{COST}
 use Rattle.wb_keeping.specs.Fairness.{AnswersWhatIsHeld}
-use Rattle.wb_keeping.specs.Kept.{Doing, Line, room_lines, still, stops_one, want, want_told, lending, Calls}
+use Rattle.wb_keeping.specs.Kept.{Doing, Line, covers, room_lines, still, stops_one, want, want_told, lending, Calls}
 use Rattle.wb_keeping.specs.Performing.{Keeping, after_doing, after_line, after_lines, asked_name, asked_with, sees, view_of}
 use Rattle.wb_policy.specs.Policy.{after_wanting}
 use Rattle.wb_keeping.specs.Views.{View, holds, is_asked, is_full, level as level_by, is_known}
@@ -33,7 +33,7 @@ use Rattle.wb_policy.specs.declared.wanting.AskedName.{AskedName}
 use Rattle.wb_keeping.proofs.AskedTimers.{level_seen, named}
 use Rattle.wb_keeping.proofs.Performed.{after_both, then_after}
 use Rattle.wb_keeping.proofs.StandingTimers.{as_many}
-use Rattle.wb_keeping.proofs.Wanted.{lines_wanted, lending_parts, lent_first, taken_back}
+use Rattle.wb_keeping.proofs.Wanted.{lines_wanted, lending_parts, lent_first, parts_wanted, taken_back}
 use Rattle.wb_keeping.proofs.WantedNames.{lines_answer_held, wanted_is_asked, AreSettings, IsSetting}
 use Rattle.wb_policy.proofs.Spending.{has_place}
 use Rattle.wb_kept_progress.proofs.Lines.{lines_of, lines_rest, IsSmall, are_small}
@@ -259,7 +259,7 @@ module _ (name : NameValue) (anew : Bool) (k : Keeping) where
   v = view_of k.host
 
   abbrev first : List Line
-  first = room_lines name v
+  first = room_lines name (covers v k.policy) v
 
   abbrev usual : List Line
   usual = lent_first name.source (v.delay name.source) k.policy.usual
@@ -277,7 +277,7 @@ module _ (name : NameValue) (anew : Bool) (k : Keeping) where
   last = after_line (Calls (Ask name)) two
 
   room_sets : AreSettings first
-  room_sets = room_each IsSetting (λ name. tt) name v
+  room_sets = room_each IsSetting (λ name. tt) name (covers v k.policy) v
 
   usual_sets : AreSettings usual
   usual_sets = by (nat_eq (v.delay name.source) UNKNOWN_DELAY) where
@@ -302,7 +302,7 @@ module _ (name : NameValue) (anew : Bool) (k : Keeping) where
   done b = let d : Doing = cond b wanted (still (sees k.host) k.policy) in record { host = after_lines d.lines k.host; policy = d.policy }
 
   abbrev is_so : Bool
-  is_so = is_wanted (holds v name) (is_full v) anew (is_known v name.source) (level_by v name) k.policy.owed v.now
+  is_so = is_wanted (holds v name) (is_full v) anew (is_known v name.source) (level_by v name) (length v.asked) k.policy.owed v.now
 
   new_back : (m : NameValue) → IsNew last m → (name ≡ m) ⊎ IsNew k.host m
   new_back m new = ⊎_elim
@@ -340,47 +340,44 @@ module _ (name : NameValue) (anew : Bool) (k : Keeping) where
         under : (owed now n : ℕ) → max owed now - now ≤ 63 * COST → now + n * COST ≤ max owed now → n ≤ 63
         under owed now n le p = omega (arith, le, p)
 
-      another : goes_on anew (level_by v name) ≡ false → same_name name n ≡ false
+      another : goes_on anew (covers v k.policy) (level_by v name) ≡ false → same_name name n ≡ false
       another idle = false_from_ne_true (same_name name n) (λ same.
           let l : level_by v name ≡ Some 0 = level_seen k.host name ∙ subst (λ (m : NameValue). level k.host m ≡ Some 0) (sym (same_name-is name n same)) new in
-          true≢false (on anew ∙ sym (ap (goes_on anew) l) ∙ idle)) where
-            on : (b : Bool) → true ≡ goes_on b (Some 0)
+          true≢false (on anew ∙ sym (ap (goes_on anew (covers v k.policy)) l) ∙ idle)) where
+            on : (b : Bool) → true ≡ goes_on b (covers v k.policy) (Some 0)
             on true = refl
             on false = refl
 
       room_keeps : same_name name n ≡ false → length names ≤ 63 → IsNew one n
       room_keeps other few = by (is_asked v name) v.asked refl where
         -- one that gives way is not new
-        not_new : (a : AskedName) (later : List AskedName) → v.asked ≡ a ∷ later → gives_way (length (a ∷ later)) (fold older a later).level ≡ true → IsNew k.host (fold older a later).name → ⊥
+        not_new : (a : AskedName) (later : List AskedName) → v.asked ≡ a ∷ later → gives_way (covers v k.policy) (length (a ∷ later)) (fold older a later).level ≡ true → IsNew k.host (fold older a later).name → ⊥
         not_new a later e way is_new = ⊎_elim
             (λ (many : nat_le 64 (length (a ∷ later)) ≡ true). oldest_is_old k.host names are.all few a later e (leb-true 64 (length (a ∷ later)) many) is_new)
-            (λ (old : is_old (fold older a later).level ≡ true).
+            (λ (old : (is_old (fold older a later).level && covers v k.policy) ≡ true).
             let told = level_told k.host (fold older a later) (subst (λ (asked : List AskedName). Contains asked (fold older a later)) (sym e) (oldest_is_one a later)) in
             let zero_level = same_Some (fold older a later).level 0 (sym told ∙ is_new) in
-            let four = leb-true 4 (fold older a later).level old in
+            let four = leb-true 4 (fold older a later).level (and_parts (is_old (fold older a later).level) (covers v k.policy) old).0 in
             absurd (omega (arith, four, zero_level)))
-            (or_cases (nat_le 64 (length (a ∷ later))) (is_old (fold older a later).level) way)
+            (or_cases (nat_le 64 (length (a ∷ later))) (is_old (fold older a later).level && covers v k.policy) way)
 
-        way : (a : AskedName) (later : List AskedName) → v.asked ≡ a ∷ later → (b : Bool) → gives_way (length (a ∷ later)) (fold older a later).level ≡ b
+        way : (a : AskedName) (later : List AskedName) → v.asked ≡ a ∷ later → (b : Bool) → gives_way (covers v k.policy) (length (a ∷ later)) (fold older a later).level ≡ b
             → IsNew (after_lines (stops_one (cond b (Some (fold older a later)) None)) k.host) n
         way a later is false e = new
         way a later is true e = stop_leaves (fold older a later).name n k.host (false_from_ne_true (same_name (fold older a later).name n) (λ same.
             not_new a later is e (subst (λ (m : NameValue). level k.host m ≡ Some 0) (sym (same_name-is (fold older a later).name n same)) new))) ∙ new
 
-        by : (a : Bool) → (asked : List AskedName) → v.asked ≡ asked → IsNew (after_lines (cond a (Calls (Stop name) ∷ []) (stops_one (giving_way asked))) k.host) n
+        by : (a : Bool) → (asked : List AskedName) → v.asked ≡ asked → IsNew (after_lines (cond a (Calls (Stop name) ∷ []) (stops_one (giving_way (covers v k.policy) asked))) k.host) n
         by true asked is = stop_leaves name n k.host other ∙ new
         by false [] is = new
-        by false (a ∷ later) is = way a later is (gives_way (length (a ∷ later)) (fold older a later).level) refl
+        by false (a ∷ later) is = way a later is (gives_way (covers v k.policy) (length (a ∷ later)) (fold older a later).level) refl
 
       stays_new : (b : Bool) → is_so ≡ b → IsNew (done b).host n
       stays_new false e = new
       stays_new true e =
-          let one_part = and_parts (not (holds v name)) _ e in
-          let two_part = and_parts (not (is_full v)) _ one_part.1 in
-          let three_part = and_parts (not (goes_on anew (level_by v name))) _ two_part.1 in
-          let idle = not-true (goes_on anew (level_by v name)) three_part.0 in
-          let other = another idle in
-          let kept = room_keeps other (few (has_place (anew || is_known v name.source) k.policy.owed (present k.host) three_part.1)) in
+          let parts = parts_wanted name anew (sees k.host) k.policy e in
+          let other = another parts.2 in
+          let kept = room_keeps other (few (has_place (anew || is_known v name.source) k.policy.owed (present k.host) parts.3)) in
           levels_there n ∙ asks_leaves name n two other ∙ lent_levels name.source (v.delay name.source) k.policy.usual n one ∙ kept
 
   none_two : (n : NameValue) → HasNone k.host n → HasNone two n
@@ -438,7 +435,7 @@ stays_asked name anew k n is =
     record { names = more.0; are = more.1; new = new_stays name anew k is.names is.are n is.new }
 
 owed_then : (name : NameValue) (anew : Bool) (k : Keeping) (used : ℕ) → k.policy.owed ≤ present k.host + used * COST → (after_doing (want name anew) k).policy.owed ≤ present k.host + suc used * COST
-owed_then name anew k used le = by (is_wanted (holds (view_of k.host) name) (is_full (view_of k.host)) anew (is_known (view_of k.host) name.source) (level_by (view_of k.host) name) k.policy.owed (present k.host)) where
+owed_then name anew k used le = by (is_wanted (holds (view_of k.host) name) (is_full (view_of k.host)) anew (is_known (view_of k.host) name.source) (level_by (view_of k.host) name) (length (view_of k.host).asked) k.policy.owed (present k.host)) where
   wanted : Doing
   wanted = record { policy = after_wanting (present k.host) k.policy; lines = lines_wanted name anew (sees k.host) k.policy }
 

@@ -1,7 +1,6 @@
 -- After a line with which a host asks for a name its timer stands.
-use Rattle.std.proofs.Common.{◌≡◌, Bool, true, false, cond, List, [], ◌∷◌, ◌++◌, ◌∙◌, None, ap, append_assoc, refl, subst, sym, ⊎_elim}
-use Rattle.std.specs.Prelude.{Contains, not, take, nat_eq}
-use Rattle.std.proofs.lemmas.Bool.{and_parts, not-true}
+use Rattle.std.proofs.Common.{◌≡◌, Bool, true, false, cond, List, [], ◌∷◌, ◌++◌, ◌∙◌, None, ap, append_assoc, refl, subst, sym, ⊎_elim, length}
+use Rattle.std.specs.Prelude.{Contains, take, nat_eq}
 use Rattle.std.proofs.lemmas.List.Elements.{Contains-append_cases}
 use Rattle.wb_names.specs.Values.{NameValue}
 use Rattle.wb_names.proofs.Listings.{Contains-cases, Contains-none}
@@ -10,17 +9,17 @@ use Rattle.wb_member.specs.Opened.{Opened, asks_for}
 use Rattle.wb_member.specs.declared.calls.Call.TheVariants.{Tick, Hear, SetDelay, Tune, Ask, Stop}
 use Rattle.wb_keeping.specs.Fairness.{AnswersWhatIsHeld}
 use Rattle.wb_recovery.specs.declared.limits.TheConstants.{UNKNOWN_DELAY}
-use Rattle.wb_keeping.specs.Kept.{Arrives, Doing, Line, room_lines, still, want, lending, Calls}
+use Rattle.wb_keeping.specs.Kept.{Arrives, Doing, Line, covers, room_lines, still, want, lending, Calls}
 use Rattle.wb_keeping.specs.Laws.{KeptLine, doing_of, fault_of}
 use Rattle.wb_keeping.specs.Performing.{Keeping, after_doing, after_lines, sees, view_of}
 use Rattle.wb_policy.specs.Policy.{after_wanting}
 use Rattle.wb_keeping.specs.Views.{View, holds, is_full, level, is_known}
-use Rattle.wb_policy.specs.Wanting.{goes_on, is_wanted}
+use Rattle.wb_policy.specs.Wanting.{is_wanted}
 use Rattle.wb_keeping.proofs.EachStep.{HoldsOfSteps, line_holds}
 use Rattle.wb_keeping.proofs.Performed.{after_both}
 use Rattle.wb_keeping.proofs.StandingTimers.{stands_asked}
 use Rattle.wb_keeping.proofs.Wanted.{is_asked_for, lines_wanted, lending_parts, lent_first, taken_back}
-use Rattle.wb_keeping.proofs.WantedNames.{lines_answer_held, wanted_is_asked}
+use Rattle.wb_keeping.proofs.WantedNames.{is_asked_then, lines_answer_held}
 use Rattle.wb_kept_progress.proofs.WantedIn.{IsAskedInCall}
 use Rattle.wb_kept_progress.proofs.AskedInCalls.{AskNothing, IsAskOf, asked_is}
 use Rattle.wb_keeping.proofs.EachLine.{room_each, states_each}
@@ -64,12 +63,12 @@ both_stand k m l one other a b = record { at = b.at ∙ ap (after_lines other) a
       (Contains-append_cases one other (Calls (Ask n)) c)
 
 wants_stand : (name : NameValue) (anew : Bool) (k : Keeping) → AsksStand k (want name anew (sees k.host) k.policy).lines (after_doing (want name anew) k)
-wants_stand name anew k = record { at = refl; stand = λ answers_held n c. by answers_held n (is_wanted (holds v name) (is_full v) anew (is_known v name.source) (level v name) k.policy.owed v.now) refl c } where
+wants_stand name anew k = record { at = refl; stand = λ answers_held n c. by answers_held n (is_wanted (holds v name) (is_full v) anew (is_known v name.source) (level v name) (length v.asked) k.policy.owed v.now) refl c } where
   v : View
   v = view_of k.host
 
   first : List Line
-  first = room_lines name v
+  first = room_lines name (covers v k.policy) v
 
   usual : List Line
   usual = lent_first name.source (v.delay name.source) k.policy.usual
@@ -106,7 +105,7 @@ wants_stand name anew k = record { at = refl; stand = λ answers_held n c. by an
 
   only : (n : NameValue) → Contains (first ++ (usual ++ Calls (Ask name) ∷ back)) (Calls (Ask n)) → name ≡ n
   only n c = ⊎_elim
-      (none_asks first n (room_each (IsAskOf (λ n. ⊥)) (λ name. tt) name v))
+      (none_asks first n (room_each (IsAskOf (λ n. ⊥)) (λ name. tt) name (covers v k.policy) v))
       (λ (rest : Contains (usual ++ Calls (Ask name) ∷ back) (Calls (Ask n))). ⊎_elim
       (none_asks usual n usual_asks)
       (λ (last : Contains (Calls (Ask name) ∷ back) (Calls (Ask n))). ⊎_elim (same_name n) (none_asks back n back_asks) (Contains-cases (Calls (Ask name)) (Calls (Ask n)) back last))
@@ -128,19 +127,16 @@ wants_stand name anew k = record { at = refl; stand = λ answers_held n c. by an
       ap (λ (ls : List Line). first ++ ls) (parts ∙ sym (append_assoc usual (Calls (Ask name) ∷ []) back))
       ∙ sym (append_assoc first (usual ++ Calls (Ask name) ∷ []) back)
 
-  asked : AnswersWhatIsHeld k.host → is_wanted (holds v name) (is_full v) anew (is_known v name.source) (level v name) k.policy.owed v.now ≡ true → asks_for name (after_lines before k.host) ≡ true
+  asked : AnswersWhatIsHeld k.host → is_wanted (holds v name) (is_full v) anew (is_known v name.source) (level v name) (length v.asked) k.policy.owed v.now ≡ true → asks_for name (after_lines before k.host) ≡ true
   asked answers_held e =
-      let one = and_parts (not (holds v name)) _ e in
-      let two = and_parts (not (is_full v)) _ one.1 in
-      let three = and_parts (not (goes_on anew (level v name))) _ two.1 in
       sym (asks_back (after_lines before k.host))
       ∙ ap (asks_for name) (sym (after_both before back k.host))
       ∙ ap (λ (ls : List Line). asks_for name (after_lines ls k.host)) (sym whole)
       ∙ ap (λ (d : Doing). asks_for name (after_lines d.lines k.host)) (sym (is_asked_for name anew (sees k.host) k.policy e))
       ∙ stands_asked (after_doing (want name anew) k).host name
-      (wanted_is_asked name anew k answers_held (not-true (holds v name) one.0) (not-true (is_full v) two.0) three.1)
+      (is_asked_then name anew k answers_held e)
 
-  by : AnswersWhatIsHeld k.host → (n : NameValue) (b : Bool) → is_wanted (holds v name) (is_full v) anew (is_known v name.source) (level v name) k.policy.owed v.now ≡ b
+  by : AnswersWhatIsHeld k.host → (n : NameValue) (b : Bool) → is_wanted (holds v name) (is_full v) anew (is_known v name.source) (level v name) (length v.asked) k.policy.owed v.now ≡ b
       → Contains (so b).lines (Calls (Ask n)) → Stands (so b).lines k.host n
   by answers_held n false e c = absurd (Contains-none (Calls (Ask n)) c)
   by answers_held n true e c =
@@ -165,7 +161,7 @@ steps_stand = record {
     reports = λ page until told k is. asks_nothing k _ _ refl (tt, tt);
   };
   ticks = λ now k later. asks_nothing k (Calls (Tick now) ∷ []) _ refl (tt, tt);
-  arrives = λ d k. asks_nothing k (Arrives d ∷ []) _ refl (tt, tt);
+  arrives = λ d k free. asks_nothing k (Arrives d ∷ []) _ refl (tt, tt);
   answered = λ d k lacks asked. asks_nothing k (Arrives d ∷ []) _ refl (tt, tt);
   hears = λ v k. asks_nothing k (Calls (Hear v) ∷ []) _ refl (tt, tt);
   stops = λ name k full. asks_nothing k (Calls (Stop name) ∷ []) _ refl (tt, tt);
@@ -173,7 +169,8 @@ steps_stand = record {
   lends = λ source k. asks_nothing k _ _ refl (tt, tt);
   takes_back = λ source k. asks_nothing k _ _ refl (tt, tt);
   tunes = λ constants k within. asks_nothing k (Calls (Tune constants) ∷ []) _ refl (tt, tt);
-  draws = λ d k. asks_nothing k _ _ refl (tt, tt);
+  draws = λ d k unasked. asks_nothing k _ _ refl (tt, tt);
+  drawn = λ d k asked. asks_nothing k _ _ refl (tt, tt);
   measured = λ micros k. asks_nothing k [] _ refl tt;
   told = λ k. asks_nothing k [] _ refl tt;
   takes_up = λ k is. asks_nothing k [] _ refl tt;

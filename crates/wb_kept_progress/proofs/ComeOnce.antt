@@ -4,16 +4,18 @@ use Rattle.std.specs.Prelude.{Contains, not}
 use Rattle.std.proofs.lemmas.Bool.{and_parts, not-true}
 use Rattle.std.proofs.lemmas.List.Elements.{Contains-append_right}
 use Rattle.wb_names.specs.Values.{DrawopValue, NameValue}
-use Rattle.wb_names.proofs.Listings.{Contains-cases, Contains-here, Contains-none}
+use Rattle.wb_names.proofs.Listings.{Contains-cases, Contains-here, Contains-none, Contains-there}
+use Rattle.wb_codec.specs.declared.datagram.Datagram.TheVariants.{Draw}
 use Rattle.wb_keeper.proofs.KeptCalls.{holds_from}
 use Rattle.wb_progress.specs.InTime.{AreApart}
 use Rattle.wb_progress.proofs.Giving.{held_as}
 use Rattle.wb_member.specs.Judged.{holds, is_full}
 use Rattle.wb_member.specs.Opened.{Opened}
 use Rattle.wb_keeping.specs.Bounds.{answer_count, is_answer}
-use Rattle.wb_keeping.specs.Kept.{Arrives, Line}
+use Rattle.wb_keeping.specs.Kept.{Arrives, Line, Says}
 use Rattle.wb_keeping.specs.Performing.{after_line, after_lines, view_of}
 use Rattle.wb_keeping.specs.Views as views
+use Rattle.wb_kept_progress.proofs.DrawsNone.{HasNoDrawing}
 use Rattle.wb_kept_progress.proofs.Lines.{line_grows, lines_grow}
 use Rattle.wb_kept_progress.proofs.Repairs.{taken_in}
 use Rattle.wb_kept_progress.proofs.StopCauses.{room_before}
@@ -31,9 +33,10 @@ lacked_first line host n lacks = by (holds host n) refl where
 
 -- ---- what was asked for and came
 
-answered : (line : Line) (host : Opened) → is_answer line host ≡ true → (d : DrawopValue) × (line ≡ Arrives d) × (holds host d.name ≡ false)
-answered (Arrives d) host e = (d, refl, not-true (views.holds (view_of host) d.name) (and_parts (not (views.holds (view_of host) d.name)) (views.is_asked (view_of host) d.name) e).0)
-answered line host e = absurd (true≢false (sym e))
+answered : (line : Line) (host : Opened) → ((d : DrawopValue) → line ≡ Says (Draw d) → ⊥) → is_answer line host ≡ true → (d : DrawopValue) × (line ≡ Arrives d) × (holds host d.name ≡ false)
+answered (Arrives d) host undrawn e = (d, refl, not-true (views.holds (view_of host) d.name) (and_parts (not (views.holds (view_of host) d.name)) (views.is_asked (view_of host) d.name) e).0)
+answered (Says (Draw d)) host undrawn e = absurd (undrawn d refl)
+answered line host undrawn e = absurd (true≢false (sym e))
 
 -- as many names, of which none was held before, and each is afterwards
 pub record HaveCome (lines : List Line) (host : Opened) : Type 0 where
@@ -43,9 +46,12 @@ pub record HaveCome (lines : List Line) (host : Opened) : Type 0 where
   pub lacked : (n : NameValue) → Contains names n → holds host n ≡ false
   pub held : (n : NameValue) → Contains names n → holds (after_lines lines host) n ≡ true
 
-pub have_come : (lines : List Line) (host : Opened) → is_full (after_lines lines host) ≡ false → HaveCome lines host
-have_come [] host room = record { names = []; apart = tt; count = refl; lacked = λ n c. absurd (Contains-none n c); held = λ n c. absurd (Contains-none n c) }
-have_come (line ∷ lines) host room = by (is_answer line host) refl (have_come lines (after_line line host) room) where
+pub have_come : (lines : List Line) (host : Opened) → HasNoDrawing lines → is_full (after_lines lines host) ≡ false → HaveCome lines host
+have_come [] host none room = record { names = []; apart = tt; count = refl; lacked = λ n c. absurd (Contains-none n c); held = λ n c. absurd (Contains-none n c) }
+have_come (line ∷ lines) host none room = by (is_answer line host) refl (have_come lines (after_line line host) (λ d c. none d (Contains-there line (Says (Draw d)) lines c)) room) where
+  undrawn : (d : DrawopValue) → line ≡ Says (Draw d) → ⊥
+  undrawn d is = none d (subst (λ (l : Line). Contains (l ∷ lines) (Says (Draw d))) (sym is) (Contains-here (Says (Draw d)) lines))
+
   next : Opened
   next = after_line line host
 
@@ -63,7 +69,7 @@ have_come (line ∷ lines) host room = by (is_answer line host) refl (have_come 
     held = rest.held;
   }
   by true e rest =
-      let a = answered line host e in
+      let a = answered line host undrawn e in
       let c = came a.0 a.1 a.2 in
       record {
         names = a.0.name ∷ rest.names;

@@ -1,5 +1,5 @@
 -- What a call asks for, and what it spends of the credit.
-use Rattle.std.proofs.Common.{◌≡◌, ℕ, ◌≤◌, Bool, true, false, cond, List, [], ◌∷◌, ◌++◌, ◌∙◌, Option, Some, None, ap, arith, inl, inr, map, refl, subst, sym, ⊎_elim}
+use Rattle.std.proofs.Common.{◌≡◌, ℕ, ◌≤◌, Bool, true, false, cond, List, [], ◌∷◌, ◌++◌, ◌∙◌, Option, Some, None, ap, arith, inl, inr, map, refl, subst, sym, ⊎_elim, length}
 use Rattle.std.specs.Prelude.{◌⊎◌, Contains, nat_le, take}
 use Rattle.std.specs.Option.{option_map, option_or}
 use Rattle.std.proofs.lemmas.Bool.{leb-true}
@@ -52,7 +52,7 @@ record TakesTurn (k : Keeping) (lines : List Line) (m : Keeping) : Type 0 where
 
 turn_wants : (n : NameValue) (p : Policy) (k : Keeping) → p.owed ≡ k.policy.owed → name_in_turn k.host.is.held k.policy.turns ≡ Some n
     → TakesTurn k (want n true (sees k.host) p).lines (having_done (want n true (sees k.host) p) k)
-turn_wants n p k same is = by (is_wanted (holds v n) (is_full v) true (is_known v n.source) (level v n) p.owed v.now) where
+turn_wants n p k same is = by (is_wanted (holds v n) (is_full v) true (is_known v n.source) (level v n) (length v.asked) p.owed v.now) where
   v : View
   v = view_of k.host
 

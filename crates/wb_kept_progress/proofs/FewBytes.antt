@@ -17,7 +17,7 @@ use Rattle.wb_member.specs.declared.calls.Call.TheVariants.{Tick}
 use Rattle.wb_policy.specs.Policy.{after_wanting}
 use Rattle.wb_policy.proofs.Latest.{reports_are_small, slices_are_short}
 use Rattle.wb_keeping.specs.Bounds.{is_request}
-use Rattle.wb_keeping.specs.Kept.{Calls, Line, Says, drawing, ends_full, hears, still, timed, want}
+use Rattle.wb_keeping.specs.Kept.{Calls, Line, Says, drawing, ends_full, hears, still, timed, want, drew}
 use Rattle.wb_keeping.specs.Laws.{Added, AreTaken, Came, KeptLine, Ticked, Tuned, after_kept, doing_of, expand, fault_of, sent_by_kept}
 use Rattle.wb_keeping.specs.Performing.{Keeping, after_doing, after_line, sees, view_of}
 use Rattle.wb_keeping.specs.declared.kept_fault.KeptFault.{KeptFault}
@@ -110,7 +110,7 @@ steps_short = record {
     reports = λ page until told k due. (reports_are_small told (report_of k.host.is.held page) (view_of k.host).echoes (lawful_echoes k.host.is.number k.host.is.calls (present k.host)), tt);
   };
   ticks = λ now k later. (tt, tt);
-  arrives = λ d k. (tt, tt);
+  arrives = λ d k free. (tt, tt);
   answered = λ d k lacks was. (tt, tt);
   hears = λ v k. (tt, tt);
   stops = λ name k full. (tt, tt);
@@ -118,7 +118,8 @@ steps_short = record {
   lends = λ source k. (tt, tt);
   takes_back = λ source k. (tt, tt);
   tunes = λ constants k within. (tt, tt);
-  draws = λ d k. (tt, tt);
+  draws = λ d k unasked. (tt, tt);
+  drawn = λ d k asked. (tt, tt);
   measured = λ micros k. tt;
   told = λ k. tt;
   takes_up = λ k is. tt;
@@ -191,9 +192,10 @@ call_short (Came now v) k none short =
 call_short (Ticked now) k none short = (tt, timed_each TellsShortDrawop of_policy (sees (after_line (Calls (Tick now)) k.host)) k.policy)
 call_short (Added now page time op) k none short =
     let host = after_line (Calls (Tick now)) k.host in
-    let drawn = after_line (Says (Draw (drawing (view_of host) page time op))) host in
+    let d = drawing (view_of host) page time op in
+    let drawn = after_line (Says (Draw d)) host in
     let fits = text_fits (drawing (view_of k.host) page time op).name op (none_left _ _ _ (op_fault (drawing (view_of k.host) page time op).name op) none) in
-    (tt, (fits, then_each TellsShortDrawop ends_full timed (ends_each TellsShortDrawop of_policy) (timed_each TellsShortDrawop of_policy) (sees drawn) k.policy))
+    (tt, (fits, then_each TellsShortDrawop ends_full timed (ends_each TellsShortDrawop of_policy) (timed_each TellsShortDrawop of_policy) (sees drawn) (drew d (view_of host) k.policy)))
 call_short (Tuned constants) k none short = (tt, tt)
 
 calls_short : (lines : List KeptLine) (k : Keeping) → BringShortTexts lines → AreTaken lines k → Each TellsShortDrawop (expand lines k)

@@ -41,7 +41,7 @@ use Rattle.wb_member.specs.Random.{word_of, words_of}
 use Rattle.wb_member.specs.declared.calls.Call.TheVariants as calls
 use Rattle.wb_recovery.specs.declared.limits.TheConstants.{UNKNOWN_DELAY}
 use Rattle.wb_keeping.specs.Bounds.{new_keeping}
-use Rattle.wb_keeping.specs.Kept.{Arrives, Calls, Doing, Line, Says, and_then, drawing, ends_full, hears, hears_request, still, timed}
+use Rattle.wb_keeping.specs.Kept.{Arrives, Calls, Doing, Line, Says, and_then, drawing, ends_full, hears, hears_request, still, timed, drew}
 use Rattle.wb_keeping.specs.Laws.{Added, Came, KeptLine, Ticked, Tuned, doing_of, expand}
 use Rattle.wb_keeping.specs.Performing.{Keeping, after_doing, after_line, after_lines, said_where, sees, sent_by_line, sent_by_lines, view_of}
 use Rattle.wb_keeping.specs.Views.{holds}
@@ -378,7 +378,7 @@ one_request now asker name k =
 one_drawing : (now : ℕ) (page : PageId) (time : ℕ) (op : Op) (k : Keeping) → causes (Added now page time op) k ≤ 1
 one_drawing now page time op k =
     let more = all_more cause (Says (Draw d), host) (steps later after) in
-    let small = small_causes later after (then_each IsSmall ends_full timed (ends_each IsSmall are_small) (timed_each IsSmall are_small) (sees after) k.policy) in
+    let small = small_causes later after (then_each IsSmall ends_full timed (ends_each IsSmall are_small) (timed_each IsSmall are_small) (sees after) (drew d (view_of host) k.policy)) in
     omega (arith, more, small) where
       host : Opened
       host = after_line (Calls (calls.Tick now)) k.host
@@ -390,7 +390,7 @@ one_drawing now page time op k =
       after = after_line (Says (Draw d)) host
 
       later : List Line
-      later = (and_then ends_full timed (sees after) k.policy).lines
+      later = (and_then ends_full timed (sees after) (drew d (view_of host) k.policy)).lines
 
 call_causes : (call : KeptLine) (k : Keeping) → causes call k ≤ one_if (calls_for_drawop call k)
 call_causes (Came now (Draw d)) k = let none = none_in (Came now (Draw d)) k (record { requested = λ n asker name e. absurd cc; added = λ n page time op e. absurd cc }) in omega (arith, none)

@@ -14,7 +14,7 @@ use Rattle.wb_member.specs.declared.calls.Call.{Call}
 use Rattle.wb_member.specs.declared.calls.Call.TheVariants.{Tick, Hear, SetDelay, Tune, Ask, Stop}
 use Rattle.wb_recovery.specs.declared.limits.TheConstants.{UNKNOWN_DELAY}
 use Rattle.wb_policy.specs.Choices.{echoed_delay, own_echo, own_marks, told_names}
-use Rattle.wb_keeping.specs.Kept.{Arrives, Doing, Line, Says, Transition, and_then, came, drawing, ends_full, hears, hears_some, learned, measures, performs, still, takes_question, timed, want_told, hears_request, Calls}
+use Rattle.wb_keeping.specs.Kept.{Arrives, Doing, Line, Says, Transition, and_then, came, drawing, ends_full, hears, hears_some, learned, measures, performs, still, takes_question, timed, want_told, hears_request, Calls, drew}
 use Rattle.wb_keeping.specs.Laws.{KeptLine, Came, Ticked, Added, Tuned, doing_of}
 use Rattle.wb_keeping.specs.Performing.{Keeping, after_line, after_lines, sees, view_of}
 use Rattle.wb_policy.specs.Policy.{Policy, after_state, after_taking_up}
@@ -221,7 +221,7 @@ lines_of_call (Added now page time op) k =
     let host = after_line (Calls (Tick now)) k.host in
     let d = drawing (view_of host) page time op in
     let drawn = after_line (Says (Draw d)) host in
-    (tt, ((now, page, time, op, refl, refl), from_small (Added now page time op) k.host drawn (and_then ends_full timed (sees drawn) k.policy).lines (then_each IsSmall ends_full timed (ends_each IsSmall are_small) (timed_each IsSmall are_small) (sees drawn) k.policy)))
+    (tt, ((now, page, time, op, refl, refl), from_small (Added now page time op) k.host drawn (and_then ends_full timed (sees drawn) (drew d (view_of host) k.policy)).lines (then_each IsSmall ends_full timed (ends_each IsSmall are_small) (timed_each IsSmall are_small) (sees drawn) (drew d (view_of host) k.policy))))
 lines_of_call (Tuned constants) k = (refl, tt)
 
 pub made_in_call : (line : KeptLine) (k : Keeping) (call : Call) → Contains (doing_of line (sees k.host) k.policy).lines (Calls call) → IsOfPolicy call

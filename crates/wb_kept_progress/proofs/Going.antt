@@ -1,6 +1,6 @@
 -- At each self-managing host time goes on, and delays are in range.
 use Rattle.wb_recovery.specs.Timing.{are_constants}
-use Rattle.std.proofs.Common.{◌≡◌, ℕ, ◌≤◌, Bool, true, false, cond, List, [], ◌∷◌, ◌∙◌, None, ap, arith, refl, subst, sym, eqb-true}
+use Rattle.std.proofs.Common.{◌≡◌, ℕ, ◌≤◌, Bool, true, false, cond, List, [], ◌∷◌, ◌∙◌, None, ap, arith, refl, subst, sym, eqb-true, length}
 use Rattle.std.proofs.Math.Nat.{le_refl}
 use Rattle.std.specs.Prelude.{nat_eq, take, ◌*◌, ◌/◌, ◌+◌, max, min}
 use Rattle.wb_names.specs.Values.{NameValue}
@@ -97,7 +97,7 @@ bounded_fits : (micros : ℕ) → bounded micros ≤ farthest
 bounded_fits micros = let near = bounded_near micros in omega (arith, near)
 
 wants_on : (name : NameValue) (anew : Bool) (k : Keeping) → GoesOn k (want name anew (sees k.host) k.policy).lines (after_doing (want name anew) k)
-wants_on name anew k = record { at = refl; goes = λ g. by g (is_wanted (holds v name) (is_full v) anew (is_known v name.source) (level v name) k.policy.owed v.now) } where
+wants_on name anew k = record { at = refl; goes = λ g. by g (is_wanted (holds v name) (is_full v) anew (is_known v name.source) (level v name) (length v.asked) k.policy.owed v.now) } where
   v : View
   v = view_of k.host
 
@@ -124,7 +124,7 @@ steps_go_on = record {
     reports = λ page until told k is. record { at = refl; goes = λ g. record { orderly = g.orderly; near = g.near } };
   };
   ticks = λ now k later. record { at = refl; goes = λ g. record { orderly = (later, tt, g.orderly); near = g.near } };
-  arrives = λ d k. record { at = refl; goes = λ g. record { orderly = (le_refl (present k.host), tt, g.orderly); near = g.near } };
+  arrives = λ d k free. record { at = refl; goes = λ g. record { orderly = (le_refl (present k.host), tt, g.orderly); near = g.near } };
   answered = λ d k lacks asked. record { at = refl; goes = λ g. record { orderly = (le_refl (present k.host), tt, g.orderly); near = g.near } };
   hears = λ v k. record { at = refl; goes = λ g. record { orderly = hears_orderly v k.host g.orderly; near = g.near } };
   stops = λ name k full. record { at = refl; goes = λ g. record { orderly = (le_refl (present k.host), tt, g.orderly); near = g.near } };
@@ -132,7 +132,8 @@ steps_go_on = record {
   sets = λ source micros k. record { at = refl; goes = λ g. record { orderly = (le_refl (present k.host), bounded_fits micros, g.orderly); near = g.near } };
   lends = λ source k. record { at = refl; goes = λ g. record { orderly = (le_refl (present k.host), near_fits k.policy.usual g.near, g.orderly); near = g.near } };
   takes_back = λ source k. record { at = refl; goes = λ g. record { orderly = (le_refl (present k.host), unknown_fits, g.orderly); near = g.near } };
-  draws = λ d k. record { at = refl; goes = λ g. record { orderly = (le_refl (present k.host), tt, g.orderly); near = g.near } };
+  draws = λ d k unasked. record { at = refl; goes = λ g. record { orderly = (le_refl (present k.host), tt, g.orderly); near = g.near } };
+  drawn = λ d k asked. record { at = refl; goes = λ g. record { orderly = (le_refl (present k.host), tt, g.orderly); near = g.near } };
   measured = λ micros k. changes k _ refl (λ near. usual_near k.policy.usual micros near);
   told = λ k. changes k _ refl (λ near. near);
   takes_up = λ k is. changes k _ refl (λ near. near);

@@ -23,6 +23,7 @@ use Rattle.wb_kept_progress.specs.Whole.{AreCalledInOrder, IsHeldBySome, IsTimel
 use Rattle.wb_kept_progress.proofs.Becoming.{lacked_before, lacked_first}
 use Rattle.wb_kept_progress.proofs.CallParts.{calls_end, calls_order, due_by_turn}
 use Rattle.wb_kept_progress.proofs.ComeOnce.{HaveCome, have_come}
+use Rattle.wb_kept_progress.proofs.DrawsNone.{late_behind, none_draws, performs_no_drawing}
 use Rattle.wb_kept_progress.proofs.Handed.{after_handed, handed, performs_in, taken_handed}
 use Rattle.wb_kept_progress.proofs.NothingNew.{held_was_held}
 use Rattle.wb_kept_progress.proofs.OwedAndDue.{near_there, next_by_turn, now_there, taken_of}
@@ -71,7 +72,10 @@ module _ (hosts : ℕ → Opening) (terms : Terms) (trace : List TimedLine) (mos
     room = subst (λ (h : Opened). is_full h ≡ false) same_host (session.room (newer ++ e ∷ []) (window ++ base) i upto live (let le = ends in omega (arith, late, le)))
 
     come : HaveCome lines k.host
-    come = have_come lines k.host room
+    come =
+        have_come lines k.host
+        (performs_no_drawing hosts i window base (none_draws hosts terms trace session (newer ++ e ∷ []) window base upto (late_behind hosts terms trace session window base order (omega (arith, late)))))
+        room
 
     few_come : answer_count lines k.host ≤ most
     few_come =

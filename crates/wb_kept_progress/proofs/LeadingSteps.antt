@@ -1,29 +1,22 @@
 -- What a host asks for stays asked for, or another missing number is, step by step: as it wants names, leaps, takes turns, and does what is due.
-use Rattle.std.proofs.Common.{◌≡◌, ℕ, zero, suc, ◌+◌, ◌-◌, ◌*◌, ◌≤◌, Bool, true, false, cond, List, [], ◌∷◌, ◌∙◌, Option, Some, None, ap, append-nil, arith, filter, inl, inr, length, map, max, refl, subst, sym, true≢false, ⊎_elim}
+use Rattle.std.proofs.Common.{◌≡◌, ℕ, zero, suc, ◌+◌, ◌-◌, ◌*◌, ◌≤◌, Bool, true, false, cond, List, [], ◌∷◌, ◌∙◌, Option, Some, None, ap, append-nil, arith, inl, inr, length, map, max, refl, subst, sym, true≢false, ⊎_elim}
 use Rattle.std.specs.Prelude.{◌⊎◌, ◌||◌, ◌&&◌, ◌%◌, All, Contains, is_some, nat_le, not, take}
-use Rattle.std.proofs.lemmas.Bool.{and_parts, false_from_ne_true, le-leb, leb-true, not-true}
+use Rattle.std.proofs.lemmas.Bool.{false_from_ne_true, le-leb, leb-true}
 use Rattle.std.proofs.lemmas.List.Elements.{All-head, All-tail}
 use Rattle.std.proofs.lemmas.Nat.{mod_below}
 use Rattle.std.proofs.Math.Nat.{le-add_right}
-use Rattle.wb_names.specs.Orders.{same_name}
 use Rattle.wb_names.specs.Values.{DrawopValue, MarkValue, NameValue}
 use Rattle.wb_names.specs.declared.name.PageId.{PageId}
-use Rattle.wb_names.proofs.Listings.{Contains-cases, Contains-from_filter, Contains-here, Contains-none, Contains-there}
-use Rattle.wb_names.proofs.Orders.{same_name-is}
+use Rattle.wb_names.proofs.Listings.{Contains-cases, Contains-none}
 use Rattle.wb_codec.specs.declared.datagram.Datagram.TheVariants.{AskPages}
 use Rattle.wb_gaps.specs.Answers.{pages_of, report_of}
 use Rattle.wb_gaps.specs.Gaps.{IsMissing}
 use Rattle.wb_gaps.specs.Holes.{begins_after, hole_after, holes_of}
 use Rattle.wb_gaps.specs.Starts.{start}
 use Rattle.wb_gaps.specs.declared.holes.Hole.{Hole}
-use Rattle.wb_recovery.specs.Events.{Event, Got}
-use Rattle.wb_recovery.specs.Laws.{arrives, notices, since}
-use Rattle.wb_recovery.specs.Stopping.{receipts}
-use Rattle.wb_keeper.specs.Keeper.{delay_to, holds, received_of}
-use Rattle.wb_keeper.specs.Ticks.{stopped_after}
+use Rattle.wb_keeper.specs.Keeper.{holds}
 use Rattle.wb_member.specs.Judged.{is_full}
-use Rattle.wb_member.specs.Opened.{Opened, asks_for, events, present}
-use Rattle.wb_member.specs.declared.calls.Call.TheVariants.{Tick}
+use Rattle.wb_member.specs.Opened.{Opened, asks_for, present}
 use Rattle.wb_policy.specs.Credit.{has_credit, leaves_some}
 use Rattle.wb_policy.specs.Leaps.{far_in, far_name}
 use Rattle.wb_policy.specs.Policy.{Policy, after_answer, after_question, after_beat, after_leaping, after_turn, after_wanting, in_next_leaps, in_next_round}
@@ -38,16 +31,16 @@ use Rattle.wb_policy.proofs.Cycle.{found_at}
 use Rattle.wb_policy.proofs.FilledHoles.{hole_filled}
 use Rattle.wb_policy.proofs.HolesRise.{holes_rise}
 use Rattle.wb_keeping.specs.Fairness.{AnswersWhatIsHeld}
-use Rattle.wb_keeping.specs.Kept.{Arrives, Calls, Doing, Line, Says, Transition, and_then, answers, asks_pages, is_begun, is_unasked, leap, leap_to, leaps_on, reports, reports_due, reports_rest, state_of, still, timed, turn, turn_by_clock, turn_if, turn_to, turns_on, turns_past, want, want_near}
-use Rattle.wb_keeping.specs.Performing.{Keeping, after_doing, after_line, sees, view_of}
+use Rattle.wb_keeping.specs.Kept.{Doing, Line, Says, Transition, and_then, answers, asks_pages, covers, is_begun, is_unasked, leap, leap_to, leaps_on, reports, reports_due, reports_rest, state_of, still, timed, turn, turn_by_clock, turn_if, turn_to, turns_on, turns_past, want, want_near}
+use Rattle.wb_keeping.specs.Performing.{Keeping, after_doing, sees, view_of}
 use Rattle.wb_keeping.specs.Views.{View, is_asked, is_known, level, holds as holds_by, is_full as is_full_by}
 use Rattle.wb_keeping.proofs.EachLine.{want_each}
 use Rattle.wb_keeping.proofs.EachStep.{doing, having_done, leaps_on_hold, turns_past_hold, with_policy}
 use Rattle.wb_keeping.proofs.Performed.{then_after}
 use Rattle.wb_keeping.proofs.Saying.{says_after}
-use Rattle.wb_keeping.proofs.StandingTimers.{IsMissed, missed_from, missed_to, stands_asked}
+use Rattle.wb_keeping.proofs.StandingTimers.{stands_asked}
 use Rattle.wb_keeping.proofs.Wanted.{begun as wanted_begins, is_not_asked_for, is_wanted_here, leaps_end, leaps_go_on, lines_wanted, no_leaps, no_turns, turns_end, turns_go_on}
-use Rattle.wb_keeping.proofs.WantedNames.{wanted_is_asked}
+use Rattle.wb_keeping.proofs.WantedNames.{is_asked_then, wanted_is_asked}
 use Rattle.wb_kept_progress.specs.LeadsOn.{AsksForMissing, IsMissingAt}
 use Rattle.wb_kept_progress.proofs.InTurn.{owed_r, reported, to_turn, turned_there}
 use Rattle.wb_kept_progress.proofs.Leaving.{answers_on}
@@ -55,35 +48,6 @@ use Rattle.wb_kept_progress.proofs.Lines.{IsSmall, are_small, does_rest}
 use Rattle.wb_kept_progress.proofs.TurnNames.{missing_in, number_above, number_below, some_first}
 use Rattle.wb_kept_progress.proofs.Turning.{in_hole, missing_is_lacked}
 use Rattle.wb_kept_progress.proofs.WantedIn.{CostsMore, IsAskedIn, MayBeWanted, asked_first, asked_second, costs, costs_both, costs_nothing, same_may}
-
--- ---- a timer as time goes on
-
--- what comes of others leaves a name missed
-pub others_come : (n : NameValue) (now : ℕ) (delays : ℕ → ℕ) (names : List NameValue) (calls : List Event) → ((x : NameValue) → Contains names x → same_name x n ≡ false) → IsMissed n calls
-    → IsMissed n (receipts now calls (received_of delays names))
-others_come n now delays [] calls others missed = missed
-others_come n now delays (x ∷ names) calls others missed =
-    others_come n now delays names (Got x now (delays x.source) ∷ calls) (λ y c. others y (Contains-there x y names c))
-    (subst (λ (b : Bool). cond b false (since (notices n) (arrives n) calls) ≡ true) (sym (others x (Contains-here x names))) missed)
-
--- a request timer for what is lacked stands after a tick
-pub ticked_stands : (now : ℕ) (host : Opened) (n : NameValue) → holds host.is.held n ≡ false → asks_for n host ≡ true → asks_for n (after_line (Calls (Tick now)) host) ≡ true
-ticked_stands now host n lacks stands =
-    missed_to (after_line (Calls (Tick now)) host) n
-    (others_come n now (delay_to host.is.number host.is.calls) (stopped_after host.is.number host.is.constants host.is.calls host.is.held) (events host)
-    (λ x c. false_from_ne_true (same_name x n) (λ same.
-    true≢false (sym (subst (λ (y : NameValue). holds host.is.held y ≡ true) (same_name-is x n same) (Contains-from_filter (holds host.is.held) _ x c).1) ∙ lacks)))
-    (missed_from host n stands))
-
--- and one of another name after a drawop came
-pub arrival_stands : (d : DrawopValue) (host : Opened) (n : NameValue) → holds (after_line (Arrives d) host).is.held n ≡ false → asks_for n host ≡ true → asks_for n (after_line (Arrives d) host) ≡ true
-arrival_stands d host n lacks stands =
-    let then = (after_line (Arrives d) host).is.held in
-    missed_to (after_line (Arrives d) host) n
-    (others_come n (present host) (delay_to host.is.number host.is.calls) (filter (holds then) (d.name ∷ [])) (events host)
-    (λ x c. false_from_ne_true (same_name x n) (λ same.
-    true≢false (sym (subst (λ (y : NameValue). holds then y ≡ true) (same_name-is x n same) (Contains-from_filter (holds then) (d.name ∷ []) x c).1) ∙ lacks)))
-    (missed_from host n stands))
 
 -- ---- a name that is wanted
 
@@ -108,10 +72,7 @@ module _ (name : NameValue) (anew : Bool) (k : Keeping) where
 
   pub want_stands : AnswersWhatIsHeld k.host → so ≡ true → asks_for name (after_doing (want name anew) k).host ≡ true
   want_stands answering e =
-      let one = and_parts (not (holds_by v name)) _ e in
-      let two = and_parts (not (is_full_by v)) _ one.1 in
-      let three = and_parts (not (goes_on anew (level v name))) _ two.1 in
-      stands_asked (after_doing (want name anew) k).host name (wanted_is_asked name anew k answering (not-true (holds_by v name) one.0) (not-true (is_full_by v) two.0) three.1)
+      stands_asked (after_doing (want name anew) k).host name (is_asked_then name anew k answering e)
 
   missing_then : IsMissingAt k name → IsMissingAt (after_doing (want name anew) k) name
   missing_then missing = subst (λ (held : List DrawopValue). IsMissing held name.page [] name.source name.seq) (sym want_holds) missing
@@ -236,9 +197,9 @@ keeps_back false true on paid h f o e = absurd (true≢false f)
 keeps_back false false true paid h f o e = absurd (true≢false o)
 keeps_back false false false paid h f o e = e
 
-no_timer : (o : Option ℕ) → is_some o ≡ false → goes_on false o ≡ false
-no_timer None e = refl
-no_timer (Some times) e = absurd (true≢false e)
+no_timer : (covered : Bool) (o : Option ℕ) → is_some o ≡ false → goes_on false covered o ≡ false
+no_timer covered None e = refl
+no_timer covered (Some times) e = absurd (true≢false e)
 
 or_second : (held asked : Bool) → held ≡ false → not (held || asked) ≡ false → asked ≡ true
 or_second true asked h e = absurd (true≢false h)
@@ -305,7 +266,7 @@ module _ (name : NameValue) (names : List NameValue) (k : Keeping) (n : NameValu
   ends e f =
       let v = view_of k.host in
       let none = unasked (holds_by v name) (is_asked v name) e in
-      let paid = keeps_back (holds_by v name) (is_full_by v) (goes_on false (level v name)) (is_paid (is_known v name.source) k.policy.owed v.now) none.0 may.room (no_timer (level v name) none.1) (not_so (is_wanted_here name false see k.policy) refl) in
+      let paid = keeps_back (holds_by v name) (is_full_by v) (goes_on false (covers v k.policy) (level v name)) (is_paid (is_known v name.source) k.policy.owed v.now) none.0 may.room (no_timer (covers v k.policy) (level v name) none.1) (not_so (is_wanted_here name false see k.policy) refl) in
       inr (short_as (want_near (name ∷ names)) still k (near_is true false e f) (unpaid_is_short (is_known v name.source) k.policy.owed v.now paid)) where
         not_so : (b : Bool) → is_wanted_here name false see k.policy ≡ b → b ≡ false
         not_so false is_so = refl

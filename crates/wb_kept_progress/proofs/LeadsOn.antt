@@ -45,7 +45,8 @@ use Rattle.wb_kept_progress.proofs.OwedAndDue.{near_at}
 use Rattle.wb_kept_progress.proofs.Repairs.{came_after, moved, taken_in}
 use Rattle.wb_kept_progress.proofs.Turning.{answers_at, in_map, missing_is_lacked}
 use Rattle.wb_kept_progress.proofs.WantedIn.{IsAskedIn, asked_behind_tick, asked_first, asked_second, costs_both, timed_costs}
-use Rattle.wb_kept_progress.proofs.LeadingSteps.{AreBelow, NearIsAsked, RunsShort, arrival_stands, asked_as, leaps_lead, leaps_start, near_asks, near_leads, near_starts, past_leads, stays_short, ticked_stands, timed_leads, timed_spends, timed_turns, turn_if_costs}
+use Rattle.wb_keeping.proofs.StayStanding.{arrival_stands, ticked_stands}
+use Rattle.wb_kept_progress.proofs.LeadingSteps.{AreBelow, NearIsAsked, RunsShort, asked_as, leaps_lead, leaps_start, near_asks, near_leads, near_starts, past_leads, stays_short, timed_leads, timed_spends, timed_turns, turn_if_costs}
 
 -- ---- a drawop that is new
 

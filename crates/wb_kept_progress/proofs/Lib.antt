@@ -19,6 +19,7 @@ pub mod WholeParts
 pub mod CallParts
 pub mod AskedComes
 pub mod Handed
+pub mod DrawsNone
 pub mod ComeOnce
 pub mod Crowds
 pub mod RoundCounts

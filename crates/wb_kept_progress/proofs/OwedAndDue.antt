@@ -1,7 +1,7 @@
 -- What is owed is at most 16 seconds ahead of the present moment, the next report is due within 96 seconds of it, and the next turn within 16.
-use Rattle.std.proofs.Common.{◌≡◌, ℕ, ◌+◌, ◌-◌, ◌*◌, ◌<◌, ◌≤◌, Bool, true, false, cond, List, [], ◌∷◌, ◌++◌, ◌∙◌, ap, append_assoc, arith, eqb-true, map, max, refl, subst, sym, ⊎_elim}
+use Rattle.std.proofs.Common.{◌≡◌, ℕ, ◌+◌, ◌-◌, ◌*◌, ◌<◌, ◌≤◌, Bool, true, false, cond, List, [], ◌∷◌, ◌++◌, ◌∙◌, ap, append_assoc, arith, eqb-true, map, max, refl, subst, sym, ⊎_elim, length}
 use Rattle.std.specs.Prelude.{◌%◌, Contains, None, nat_eq, not, take, ◌||◌}
-use Rattle.std.proofs.lemmas.Bool.{and_parts, leb-true}
+use Rattle.std.proofs.lemmas.Bool.{leb-true}
 use Rattle.wb_names.specs.Values.{NameValue}
 use Rattle.wb_codec.specs.declared.datagram.Datagram.{Datagram}
 use Rattle.wb_gaps.specs.Answers.{pages_of}
@@ -15,13 +15,13 @@ use Rattle.wb_keeping.specs.Performing.{Keeping, after_doing, sees, view_of}
 use Rattle.wb_policy.specs.Pace.{gap_within}
 use Rattle.wb_policy.specs.Policy.{after_answer, after_wanting}
 use Rattle.wb_keeping.specs.Views.{View, holds, is_full, level, is_known}
-use Rattle.wb_policy.specs.Wanting.{goes_on, is_wanted}
+use Rattle.wb_policy.specs.Wanting.{is_wanted}
 use Rattle.wb_policy.specs.Words.{started, word_of}
 use Rattle.wb_policy.proofs.Gaps.{gap_most}
 use Rattle.wb_policy.proofs.Spending.{has_place}
 use Rattle.wb_keeping.proofs.EachStep.{HoldsOfSteps, doing, having, having_done, line_holds}
 use Rattle.wb_keeping.proofs.Saying.{says_after}
-use Rattle.wb_keeping.proofs.Wanted.{lines_wanted}
+use Rattle.wb_keeping.proofs.Wanted.{lines_wanted, parts_wanted}
 use Rattle.wb_kept_progress.specs.Sessions.{AreTaken, LineAt, Opening, kept_at, opened, opened_host}
 use Rattle.wb_kept_progress.specs.Timed.{SaysNow, TellTimes, TimedLine, called_at, lines_of}
 use Rattle.wb_kept_progress.proofs.Moments.{IsTuned, moment_of, told_itself, told_or_tuned}
@@ -62,9 +62,9 @@ hears_near v k n = by (has_room_for v k.host) where
 
 wants_near : (name : NameValue) (anew : Bool) (k : Keeping) → IsNearNow k → IsNearNow (after_doing (want name anew) k)
 wants_near name anew k n = record {
-  owed = let o = by (is_wanted (holds v name) (is_full v) anew (is_known v name.source) (level v name) k.policy.owed v.now) refl in let t = now in omega (arith, o, t);
-  due = let d = due_by (is_wanted (holds v name) (is_full v) anew (is_known v name.source) (level v name) k.policy.owed v.now) in let t = now in let near = n.due in omega (arith, d, t, near);
-  beat = let d = beat_by (is_wanted (holds v name) (is_full v) anew (is_known v name.source) (level v name) k.policy.owed v.now) in let t = now in let near = n.beat in omega (arith, d, t, near);
+  owed = let o = by (is_wanted (holds v name) (is_full v) anew (is_known v name.source) (level v name) (length v.asked) k.policy.owed v.now) refl in let t = now in omega (arith, o, t);
+  due = let d = due_by (is_wanted (holds v name) (is_full v) anew (is_known v name.source) (level v name) (length v.asked) k.policy.owed v.now) in let t = now in let near = n.due in omega (arith, d, t, near);
+  beat = let d = beat_by (is_wanted (holds v name) (is_full v) anew (is_known v name.source) (level v name) (length v.asked) k.policy.owed v.now) in let t = now in let near = n.beat in omega (arith, d, t, near);
 } where
   v : View
   v = view_of k.host
@@ -78,14 +78,11 @@ wants_near name anew k n = record {
   one_more : (owed now : ℕ) → max owed now - now ≤ 63 * COST → max owed now + COST ≤ now + 16000000
   one_more owed now le = omega (arith, le)
 
-  by : (b : Bool) → is_wanted (holds v name) (is_full v) anew (is_known v name.source) (level v name) k.policy.owed v.now ≡ b
+  by : (b : Bool) → is_wanted (holds v name) (is_full v) anew (is_known v name.source) (level v name) (length v.asked) k.policy.owed v.now ≡ b
       → (let d : Doing = cond b wanted (still (sees k.host) k.policy) in d.policy.owed) ≤ present k.host + 16000000
   by false e = n.owed
   by true e =
-      let one = and_parts (not (holds v name)) _ e in
-      let two = and_parts (not (is_full v)) _ one.1 in
-      let three = and_parts (not (goes_on anew (level v name))) _ two.1 in
-      let place = has_place (anew || is_known v name.source) k.policy.owed v.now three.1 in
+      let place = has_place (anew || is_known v name.source) k.policy.owed v.now (parts_wanted name anew (sees k.host) k.policy e).3 in
       one_more k.policy.owed v.now (leb-true (max k.policy.owed v.now - v.now) (63 * COST) place)
 
   due_by : (b : Bool) → (let d : Doing = cond b wanted (still (sees k.host) k.policy) in d.policy.reports.due) ≡ k.policy.reports.due
@@ -112,7 +109,7 @@ steps_stay_near = record {
     reports = λ page until told k is. record { near = λ n. record { owed = n.owed; due = next_soon (present k.host) _ (word_of k.policy.words); beat = n.beat } };
   };
   ticks = λ now k later. record { near = λ n. near_then k (having (Calls (Tick now)) k) (omega arith) refl refl later n };
-  arrives = λ d k. record { near = λ n. record { owed = n.owed; due = n.due; beat = n.beat } };
+  arrives = λ d k free. record { near = λ n. record { owed = n.owed; due = n.due; beat = n.beat } };
   answered = λ d k lacks asked. record { near = λ n. record { owed = let o = n.owed in omega (arith, o); due = n.due; beat = n.beat } };
   hears = λ v k. record { near = hears_near v k };
   stops = λ name k full. record { near = λ n. record { owed = n.owed; due = n.due; beat = n.beat } };
@@ -120,7 +117,8 @@ steps_stay_near = record {
   lends = λ source k. record { near = λ n. record { owed = n.owed; due = n.due; beat = n.beat } };
   takes_back = λ source k. record { near = λ n. record { owed = n.owed; due = n.due; beat = n.beat } };
   tunes = λ constants k within. record { near = λ n. record { owed = n.owed; due = n.due; beat = n.beat } };
-  draws = λ d k. record { near = λ n. record { owed = n.owed; due = n.due; beat = n.beat } };
+  draws = λ d k unasked. record { near = λ n. record { owed = n.owed; due = n.due; beat = n.beat } };
+  drawn = λ d k asked. record { near = λ n. record { owed = let o = n.owed in omega (arith, o); due = n.due; beat = n.beat } };
   measured = λ micros k. record { near = λ n. record { owed = n.owed; due = n.due; beat = n.beat } };
   told = λ k. record { near = λ n. record { owed = n.owed; due = n.due; beat = n.beat } };
   takes_up = λ k is. record { near = λ n. record { owed = n.owed; due = n.due; beat = n.beat } };

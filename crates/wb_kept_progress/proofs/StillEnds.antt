@@ -28,6 +28,7 @@ use Rattle.wb_kept_progress.proofs.CallParts.{calls_end, calls_order, due_by_tur
 use Rattle.wb_kept_progress.proofs.ComeOnce.{HaveCome, have_come}
 use Rattle.wb_kept_progress.proofs.CrowdAsks.{before_newest, crowd_asks}
 use Rattle.wb_kept_progress.proofs.Crowds.{IsCrowd}
+use Rattle.wb_kept_progress.proofs.DrawsNone.{HasNoDrawing, late_from, none_draws, performs_no_drawing}
 use Rattle.wb_kept_progress.proofs.Handed.{after_handed, handed, performs_in, taken_handed}
 use Rattle.wb_kept_progress.proofs.OwedAndDue.{near_there, now_there, taken_of}
 use Rattle.wb_kept_progress.proofs.Owing.{asked_since}
@@ -278,7 +279,12 @@ module _ (hosts : ℕ → Opening) (terms : Terms) (trace : List TimedLine) (wai
 
     -- nothing came
     no_answers : answer_count lines k.host ≡ 0
-    no_answers = by (have_come lines k.host room) where
+    no_answers = by (have_come lines k.host undrawn room) where
+      undrawn : HasNoDrawing lines
+      undrawn =
+          performs_no_drawing hosts i calls b.part
+          (none_draws hosts terms trace session ((newer ++ q.front) ++ q.next ∷ []) calls b.part upto_q (late_from hosts terms trace session w.0 b.part b.next (subst AreCalledInOrder w.1 order_q.1) (let a = b.after in omega (arith, a, known))))
+
       by : HaveCome lines k.host → answer_count lines k.host ≡ 0
       by c = none c.names c.lacked c.held c.count where
         none : (names : List NameValue) → ((n : NameValue) → Contains names n → holds k.host.is.held n ≡ false) → ((n : NameValue) → Contains names n → holds (after_lines lines k.host).is.held n ≡ true)

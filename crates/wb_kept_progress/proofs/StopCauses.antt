@@ -1,6 +1,6 @@
 -- Why a self-managing host gives a name up.
 use Rattle.std.proofs.Common.{◌≡◌, ℕ, ◌<◌, ◌≤◌, Bool, true, false, cond, List, [], ◌∷◌, ◌++◌, ◌∙◌, Option, Some, None, ap, arith, inl, inr, is_some, length, refl, subst, sym, true≢false, ⊎_elim}
-use Rattle.std.specs.Prelude.{◌⊎◌, ◌&&◌, Contains, nat_le, not, take, unwrap_or, ◌||◌}
+use Rattle.std.specs.Prelude.{◌⊎◌, ◌&&◌, Contains, nat_le, not, take, unwrap_or}
 use Rattle.std.proofs.lemmas.Bool.{and_parts, leb-false, leb-true, or_cases}
 use Rattle.wb_names.specs.Values.{NameValue}
 use Rattle.wb_gaps.specs.Answers.{pages_of}
@@ -10,17 +10,17 @@ use Rattle.wb_keeper.specs.GivingUp.{level as level_in}
 use Rattle.wb_member.specs.Judged.{is_full}
 use Rattle.wb_member.specs.Opened.{Opened, events}
 use Rattle.wb_member.specs.declared.calls.Call.TheVariants.{Tick, Ask, Stop}
-use Rattle.wb_keeping.specs.Kept.{Doing, Line, room_lines, still, stops_one, want, lending, Calls}
+use Rattle.wb_keeping.specs.Kept.{Doing, Line, covers, room_lines, still, stops_one, want, lending, Calls}
 use Rattle.wb_keeping.specs.Laws.{fault_of}
 use Rattle.wb_keeping.specs.Performing.{Keeping, after_line, after_lines, sees, view_of}
 use Rattle.wb_policy.specs.Policy.{Policy, after_wanting}
 use Rattle.wb_keeping.specs.Views.{View, holds, level, is_full as shows_full, is_known}
-use Rattle.wb_policy.specs.Wanting.{gives_way, goes_on, is_old, is_paid, is_wanted, oldest, way_of}
+use Rattle.wb_policy.specs.Wanting.{gives_way, goes_on, is_old, is_wanted, oldest, way_of}
 use Rattle.wb_policy.specs.declared.wanting.AskedName.{AskedName}
 use Rattle.wb_keeping.proofs.AskedTimers.{level_seen}
 use Rattle.wb_keeping.proofs.EachStep.{HoldsOfSteps, doing, line_holds}
 use Rattle.wb_keeping.proofs.Performed.{after_both}
-use Rattle.wb_keeping.proofs.Wanted.{lines_wanted}
+use Rattle.wb_keeping.proofs.Wanted.{lines_wanted, parts_wanted}
 use Rattle.wb_kept_progress.specs.Sessions.{AreTaken, Opening}
 use Rattle.wb_kept_progress.specs.Timed.{TimedLine, lines_of}
 use Rattle.wb_kept_progress.specs.Whole.{there}
@@ -93,64 +93,59 @@ backed_off host n l e le =
     inl (t.0, t.1, subst (λ (m : ℕ). 4 ≤ m) (sym t.2) le)
 
 -- the one that gives way to another
-module _ (host : Opened) where
+module _ (covered : Bool) (host : Opened) where
   abbrev asked_here : List AskedName
   asked_here = (view_of host).asked
 
-  way_cause : (a : AskedName) → oldest asked_here ≡ Some a → gives_way (length asked_here) a.level ≡ true → HasStopCause host a.name
+  way_cause : (a : AskedName) → oldest asked_here ≡ Some a → gives_way covered (length asked_here) a.level ≡ true → HasStopCause host a.name
   way_cause a is way = ⊎_elim
       (λ (many : nat_le 64 (length asked_here) ≡ true). inr (leb-true 64 (length asked_here) many, a, is, refl))
-      (λ (old : is_old a.level ≡ true). backed_off host a.name a.level (level_seen host a.name ∙ level_told host a (oldest_among_asked asked_here a is)) (leb-true 4 a.level old))
-      (or_cases (nat_le 64 (length asked_here)) (is_old a.level) way) where
+      (λ (old : (is_old a.level && covered) ≡ true). backed_off host a.name a.level (level_seen host a.name ∙ level_told host a (oldest_among_asked asked_here a is)) (leb-true 4 a.level (and_parts (is_old a.level) covered old).0))
+      (or_cases (nat_le 64 (length asked_here)) (is_old a.level && covered) way) where
         oldest_among_asked : (asked : List AskedName) (a : AskedName) → oldest asked ≡ Some a → Contains asked a
         oldest_among_asked [] a e = absurd cc
         oldest_among_asked (b ∷ later) a e = subst (λ (x : AskedName). Contains (b ∷ later) x) (ap (λ (o : Option AskedName). unwrap_or o a) e) (oldest_is_one b later)
 
-  way_caused : (o : Option AskedName) → oldest asked_here ≡ o → AreCaused (stops_one (way_of (length asked_here) o)) host
+  way_caused : (o : Option AskedName) → oldest asked_here ≡ o → AreCaused (stops_one (way_of covered (length asked_here) o)) host
   way_caused None is = tt
-  way_caused (Some a) is = by (gives_way (length asked_here) a.level) refl where
-    by : (b : Bool) → gives_way (length asked_here) a.level ≡ b → AreCaused (stops_one (cond b (Some a) None)) host
+  way_caused (Some a) is = by (gives_way covered (length asked_here) a.level) refl where
+    by : (b : Bool) → gives_way covered (length asked_here) a.level ≡ b → AreCaused (stops_one (cond b (Some a) None)) host
     by false e = tt
     by true e = (way_cause a is e, tt)
 
-room_caused : (name : NameValue) (host : Opened) → ((l : ℕ) → level (view_of host) name ≡ Some l → 4 ≤ l) → AreCaused (room_lines name (view_of host)) host
-room_caused name host old = by (level (view_of host) name) refl where
-  by : (o : Option ℕ) → level (view_of host) name ≡ o → AreCaused (cond (is_some o) (Calls (Stop name) ∷ []) (stops_one (way_of (length (view_of host).asked) (oldest (view_of host).asked)))) host
+room_caused : (name : NameValue) (covered : Bool) (host : Opened) → ((l : ℕ) → level (view_of host) name ≡ Some l → 4 ≤ l) → AreCaused (room_lines name covered (view_of host)) host
+room_caused name covered host old = by (level (view_of host) name) refl where
+  by : (o : Option ℕ) → level (view_of host) name ≡ o → AreCaused (cond (is_some o) (Calls (Stop name) ∷ []) (stops_one (way_of covered (length (view_of host).asked) (oldest (view_of host).asked)))) host
   by (Some l) e = (backed_off host name l e (old l e), tt)
-  by None e = way_caused host (oldest (view_of host).asked) refl
+  by None e = way_caused covered host (oldest (view_of host).asked) refl
 
 -- one whose timer stands is asked for anew where it is old
-off_old : (held full anew known : Bool) (l owed now : ℕ) → is_wanted held full anew known (Some l) owed now ≡ true → 4 ≤ l
-off_old held full anew known l owed now e =
-    let may = not (goes_on anew (Some l)) in
-    let a = and_parts (not held) (not full && (may && is_paid (anew || known) owed now)) e in
-    let b = and_parts (not full) (may && is_paid (anew || known) owed now) a.1 in
-    let c = and_parts may (is_paid (anew || known) owed now) b.1 in
-    leb-true _ _ (by anew (is_old l) c.0) where
-      by : (anew late : Bool) → not (not (anew && late)) ≡ true → late ≡ true
-      by true true e = refl
-      by true false e = absurd (true≢false (sym e))
-      by false late e = absurd (true≢false (sym e))
+off_old : (anew covered : Bool) (l : ℕ) → goes_on anew covered (Some l) ≡ false → 4 ≤ l
+off_old anew covered l e = leb-true _ _ (by anew (is_old l) e) where
+  by : (anew late : Bool) → not (anew && (late && covered)) ≡ false → late ≡ true
+  by true true e = refl
+  by true false e = absurd (true≢false e)
+  by false late e = absurd (true≢false e)
 
 wanted_caused : (name : NameValue) (anew : Bool) (k : Keeping) → AreCaused (want name anew (sees k.host) k.policy).lines k.host
-wanted_caused name anew k = by (is_wanted (holds v name) (shows_full v) anew (is_known v name.source) (level v name) k.policy.owed v.now) refl where
+wanted_caused name anew k = by (is_wanted (holds v name) (shows_full v) anew (is_known v name.source) (level v name) (length v.asked) k.policy.owed v.now) refl where
   v : View
   v = view_of k.host
 
   wanted : Doing
   wanted = doing (after_wanting v.now k.policy) (lines_wanted name anew (sees k.host) k.policy)
 
-  old : is_wanted (holds v name) (shows_full v) anew (is_known v name.source) (level v name) k.policy.owed v.now ≡ true → (l : ℕ) → level v name ≡ Some l → 4 ≤ l
-  old e l is = off_old (holds v name) (shows_full v) anew (is_known v name.source) l k.policy.owed v.now
-      (ap (λ (o : Option ℕ). is_wanted (holds v name) (shows_full v) anew (is_known v name.source) o k.policy.owed v.now) (sym is) ∙ e)
+  old : is_wanted (holds v name) (shows_full v) anew (is_known v name.source) (level v name) (length v.asked) k.policy.owed v.now ≡ true → (l : ℕ) → level v name ≡ Some l → 4 ≤ l
+  old e l is = off_old anew (covers v k.policy) l (ap (goes_on anew (covers v k.policy)) (sym is) ∙ (parts_wanted name anew (sees k.host) k.policy e).2)
 
-  by : (b : Bool) → is_wanted (holds v name) (shows_full v) anew (is_known v name.source) (level v name) k.policy.owed v.now ≡ b
+  by : (b : Bool) → is_wanted (holds v name) (shows_full v) anew (is_known v name.source) (level v name) (length v.asked) k.policy.owed v.now ≡ b
       → AreCaused (cond b wanted (still (sees k.host) k.policy)).lines k.host
   by false e = tt
   by true e =
       let last = lending name.source (v.delay name.source) k.policy.usual (Calls (Ask name)) in
-      caused_both (room_lines name v) last k.host (room_caused name k.host (old e))
-      (unstopped last (after_lines (room_lines name v) k.host) (lent_each StopsNothing name.source (v.delay name.source) k.policy.usual (Calls (Ask name)) tt tt tt))
+      let room = room_lines name (covers v k.policy) v in
+      caused_both room last k.host (room_caused name (covers v k.policy) k.host (old e))
+      (unstopped last (after_lines room k.host) (lent_each StopsNothing name.source (v.delay name.source) k.policy.usual (Calls (Ask name)) tt tt tt))
 
 -- ---- all that a kept host does
 
@@ -183,7 +178,7 @@ steps_give_up = record {
     reports = λ page until told k is. quietly k _ _ (tt, tt);
   };
   ticks = λ now k later. quietly k (Calls (Tick now) ∷ []) k.policy (tt, tt);
-  arrives = λ d k. quietly k _ k.policy (tt, tt);
+  arrives = λ d k free. quietly k _ k.policy (tt, tt);
   answered = λ d k lacks asked. quietly k _ _ (tt, tt);
   hears = λ v k. quietly k _ k.policy (tt, tt);
   stops = λ name k full. record { at = refl; caused = λ room. absurd (true≢false (sym full ∙ room)) };
@@ -191,7 +186,8 @@ steps_give_up = record {
   lends = λ source k. quietly k _ k.policy (tt, tt);
   takes_back = λ source k. quietly k _ k.policy (tt, tt);
   tunes = λ constants k within. quietly k _ k.policy (tt, tt);
-  draws = λ d k. quietly k _ k.policy (tt, tt);
+  draws = λ d k unasked. quietly k _ k.policy (tt, tt);
+  drawn = λ d k asked. quietly k _ _ (tt, tt);
   measured = λ micros k. quietly k [] _ tt;
   told = λ k. quietly k [] _ tt;
   takes_up = λ k is. quietly k [] _ tt;

@@ -11,11 +11,11 @@ use Rattle.wb_progress.specs.Turns.{Terms}
 use Rattle.wb_member.specs.Opened.{present}
 use Rattle.wb_member.specs.declared.calls.Call.TheVariants.{Tick}
 use Rattle.wb_policy.specs.Fairness.{after_telling, marks_in_turn, page_in_turn}
-use Rattle.wb_policy.specs.Policy.{Policy}
-use Rattle.wb_keeping.specs.Kept.{Calls, Doing, Line, Transition, and_then, draws_it, end, ends_full, hears, performs, still, timed}
+use Rattle.wb_policy.specs.Policy.{Policy, after_drawing}
+use Rattle.wb_keeping.specs.Kept.{Calls, Doing, Line, Transition, and_then, drawing, draws_it, drew, end, ends_full, hears, performs, still, timed}
 use Rattle.wb_keeping.specs.Laws.{KeptLine, Came, Ticked, Added, Tuned, doing_of}
 use Rattle.wb_keeping.specs.Performing.{Keeping, after_doing, sees, sent_by_doing}
-use Rattle.wb_keeping.specs.Views.{View, is_full}
+use Rattle.wb_keeping.specs.Views.{View, is_asked, is_full}
 use Rattle.wb_keeping.proofs.EachLine.{timed_each}
 use Rattle.wb_keeping.proofs.Performed.{then_after, then_sent}
 use Rattle.wb_kept_progress.specs.Sessions.{Opening}
@@ -97,6 +97,13 @@ ends_call does k e = ⊎_elim
     }))
     (leb_tells e.m.policy.reports.due (present e.m.host))
 
+-- what its user draws may pay, and changes no telling
+drew_same : {A : Type 0} (of : Policy → A) → ((p : Policy) → of (after_drawing p) ≡ of p) → (d : DrawopValue) (v : View) (p : Policy) → of (drew d v p) ≡ of p
+drew_same of same d v p = by (is_asked v d.name) where
+  by : (b : Bool) → of (cond b (after_drawing p) p) ≡ of p
+  by true = same p
+  by false = refl
+
 each_call : (line : KeptLine) (k : Keeping) → IsQuiet (doing_of line) k ⊎ Reports (doing_of line) k
 each_call (Came now v) k =
     let first = performs (Calls (Tick now)) in
@@ -110,11 +117,12 @@ each_call (Added now page time op) k =
     let first = performs (Calls (Tick now)) in
     let second = draws_it page time op in
     let t = after_doing first k in
+    let drawing_then = drawing (sees t.host []) page time op in
     let d = after_doing second t in
     let same = full_same (sees d.host) d.policy in
     ends_call (doing_of (Added now page time op)) k
     (then_ends first (and_then second (and_then ends_full timed)) k refl refl
-    (then_ends second (and_then ends_full timed) t refl refl
+    (then_ends second (and_then ends_full timed) t (drew_same (λ p. p.reports.due) (λ p. refl) drawing_then (sees t.host []) t.policy) (drew_same told_of (λ p. refl) drawing_then (sees t.host []) t.policy)
     (then_ends ends_full timed d (ap (λ (p : Policy). p.reports.due) same) (ap told_of same) (ends_so (after_doing ends_full d)))))
 each_call (Tuned constants) k = inl (record { due = refl; told = refl })
 

@@ -1,5 +1,5 @@
 -- What a self-managing host tells of names, it holds; and it reports under its own number.
-use Rattle.std.proofs.Common.{◌≡◌, ℕ, Bool, true, false, cond, List, [], ◌∷◌, ◌++◌, ◌∙◌, Option, Some, None, ap, arith, inl, inr, map, refl, subst, sym, ⊎_elim}
+use Rattle.std.proofs.Common.{◌≡◌, ℕ, Bool, true, false, cond, List, [], ◌∷◌, ◌++◌, ◌∙◌, Option, Some, None, ap, arith, inl, inr, map, refl, subst, sym, ⊎_elim, length}
 use Rattle.std.specs.Prelude.{◌⊎◌, Contains, filter, nat_lt, take}
 use Rattle.std.specs.Option.{option_map}
 use Rattle.std.proofs.lemmas.Bool.{ltb-true}
@@ -141,7 +141,7 @@ all_silent [] host v none c = Contains-none v c
 all_silent (line ∷ lines) host v none c = ⊎_elim (silent line host v none.0) (all_silent lines (after_line line host) v none.1) (Contains-append_cases (sent_by_line line host) (sent_by_lines lines (after_line line host)) v c)
 
 want_none : (name : NameValue) (anew : Bool) (see : List Line → View) (p : Policy) → AreSilent (want name anew see p).lines
-want_none name anew see p = by (is_wanted (holds v name) (is_full v) anew (is_known v name.source) (level v name) p.owed v.now) where
+want_none name anew see p = by (is_wanted (holds v name) (is_full v) anew (is_known v name.source) (level v name) (length v.asked) p.owed v.now) where
   v : View
   v = see []
 
@@ -205,7 +205,7 @@ steps_tell = record {
         by_one k (Says report) _ (λ v c. subst (TellsHeld k.host.is.number k.host.is.held) (one_of report v c) (refl, slice_held k.host.is.held page told));
   };
   ticks = λ now k later. by_one k (Calls (calls.Tick now)) k.policy (tick_tells now k.host);
-  arrives = λ d k. quietly k _ k.policy (tt, tt);
+  arrives = λ d k free. quietly k _ k.policy (tt, tt);
   answered = λ d k lacks asked. quietly k _ _ (tt, tt);
   hears = λ v k. by_one k (Calls (calls.Hear v)) k.policy (hear_tells v k.host);
   stops = λ name k full. quietly k _ k.policy (tt, tt);
@@ -213,7 +213,8 @@ steps_tell = record {
   lends = λ source k. quietly k _ k.policy (tt, tt);
   takes_back = λ source k. quietly k _ k.policy (tt, tt);
   tunes = λ constants k within. quietly k _ k.policy (tt, tt);
-  draws = λ d k. by_one k (Says (Draw d)) k.policy (draw_tells k.host.is.number k.host.is.held d (becomes d k.host));
+  draws = λ d k unasked. by_one k (Says (Draw d)) k.policy (draw_tells k.host.is.number k.host.is.held d (becomes d k.host));
+  drawn = λ d k asked. by_one k (Says (Draw d)) _ (draw_tells k.host.is.number k.host.is.held d (becomes d k.host));
   measured = λ micros k. quietly k [] _ tt;
   told = λ k. quietly k [] _ tt;
   takes_up = λ k is. quietly k [] _ tt;

@@ -12,7 +12,7 @@ use Rattle.wb_words.specs.declared.adding.Adding.{Adding}
 use Rattle.wb_member.specs.Lines.{Line, Arrives, Says, Calls}
 use Rattle.wb_member.specs.Opened.{Opened, becomes}
 use Rattle.wb_member.specs.declared.calls.Call.TheVariants.{Tick}
-use Rattle.wb_keeping.specs.Kept.{Doing, adds, and_then, came, drawing, ends_full, learned, performs, takes, timed}
+use Rattle.wb_keeping.specs.Kept.{Doing, adds, and_then, came, drawing, drew, ends_full, learned, performs, takes, timed}
 use Rattle.wb_keeping.specs.Performing.{Keeping, sees, view_of}
 use Rattle.wb_keeping.specs.Views.{View, holds, is_asked, is_full}
 use Rattle.wb_commands.specs.Parsing.{handed_in}
@@ -98,7 +98,8 @@ adds_says a k =
     let d : DrawopValue = drawing (view_of k.host) a.page a.time a.op in
     let says : Line = Says (datagrams.Draw d) in
     let see : List Line → View = λ (performed : List Line). sees k.host (Calls (Tick a.moment) ∷ (says ∷ performed)) in
-    let more : List Line = (and_then ends_full timed see k.policy).lines in
+    let ticked : View = sees k.host (Calls (Tick a.moment) ∷ []) in
+    let more : List Line = (and_then ends_full timed see (drew d ticked k.policy)).lines in
     Contains-there (Does (Calls (Tick a.moment))) (Does says) (map Does (says ∷ more)) (Contains-here (Does says) (map Does more))
 
 -- ---- no clash

@@ -16,7 +16,7 @@ use Rattle.wb_lines.specs.Taking.{met}
 use Rattle.wb_member.specs.Lines.{Line, Says, Arrives, Calls}
 use Rattle.wb_member.specs.Opened.{Opened, last_number}
 use Rattle.wb_member.specs.declared.calls.Call.TheVariants as calls
-use Rattle.wb_keeping.specs.Kept.{Transition, adds, came, drawing, ends_full, hears, ticks, timed}
+use Rattle.wb_keeping.specs.Kept.{Transition, adds, came, drawing, ends_full, hears, ticks, timed, drew}
 use Rattle.wb_keeping.specs.Performing.{Keeping, sees, view_of}
 use Rattle.wb_keeping.specs.Refusing.{add_fault, came_fault, drawing_fault, tick_fault, waits_fault}
 use Rattle.wb_keeping.specs.declared.kept_fault.KeptFault.{KeptFault}
@@ -148,7 +148,7 @@ module _ (k : Keeping) (f : InRange k.host) where
       }
 
   adds_bring : (a : Adding) → IsAdding a → add_fault a.moment a.page a.time a.op k ≡ None → Each Brings (adds a.moment a.page a.time a.op (sees k.host) k.policy).lines
-  adds_bring a fit none = (tt, (drawn_in_range a fit none, then_each Brings ends_full timed (ends_each Brings of_policy) timed_brings (λ (performed : List Line). sees k.host (Calls (calls.Tick a.moment) ∷ (Says (datagrams.Draw (drawing (view_of k.host) a.page a.time a.op)) ∷ performed))) k.policy))
+  adds_bring a fit none = (tt, (drawn_in_range a fit none, then_each Brings ends_full timed (ends_each Brings of_policy) timed_brings (λ (performed : List Line). sees k.host (Calls (calls.Tick a.moment) ∷ (Says (datagrams.Draw (drawing (view_of k.host) a.page a.time a.op)) ∷ performed))) (drew (drawing (view_of k.host) a.page a.time a.op) (sees k.host (Calls (calls.Tick a.moment) ∷ [])) k.policy)))
 
   -- nothing is asked of a line that is refused
   unless_denied : (fault : Option KeptFault) (doing : Transition) (text : List ℕ) → (fault ≡ None → Each Brings (doing (sees k.host) k.policy).lines) → EachBrings (deeds_by (kept_does fault doing text k) (deeds_doing doing k))

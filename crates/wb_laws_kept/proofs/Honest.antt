@@ -10,7 +10,7 @@ use Rattle.wb_codec.specs.declared.datagram.Datagram.TheVariants.{Draw}
 use Rattle.wb_member.specs.Lines.{Line, Calls, Says, after_line, ticks_at}
 use Rattle.wb_member.specs.Opened.{Opened, last_number, present}
 use Rattle.wb_member.specs.declared.calls.Call.TheVariants.{Tick, Tune}
-use Rattle.wb_keeping.specs.Kept.{adds, came, drawing, ends_full, hears, ticks, timed}
+use Rattle.wb_keeping.specs.Kept.{adds, came, drawing, ends_full, hears, ticks, timed, drew}
 use Rattle.wb_keeping.specs.Laws.{Added, Came, Ticked, Tuned, expand}
 use Rattle.wb_laws_kept.specs.Openings.{opened}
 use Rattle.wb_keeping.specs.Performing.{Keeping, after_doing, sees, view_of}
@@ -115,7 +115,7 @@ module _ (numbers : ℕ → ℕ) where
         let says : AreHonest numbers (record { time = time; place = place; event = Does (Says (Draw its)) } ∷ with_tick) =
         (drawing_is_honest numbers with_tick time place its its_own (omega arith) (inr is_above), tick) in
         lines_honest time place none _ (record { time = time; place = place; event = Does (Says (Draw its)) } ∷ with_tick) says (λ d is. absurd is)
-        (then_each (IsGiven none) ends_full timed (ends_each (IsGiven none) (of_policy none)) (timed_given none) (λ (lines : List Line). sees k.host (Calls (Tick now) ∷ (Says (Draw its) ∷ lines))) p)
+        (then_each (IsGiven none) ends_full timed (ends_each (IsGiven none) (of_policy none)) (timed_given none) (λ (lines : List Line). sees k.host (Calls (Tick now) ∷ (Says (Draw its) ∷ lines))) (drew its (view_of ticked_host) p))
 
   -- ---- calls
 

@@ -11,7 +11,7 @@ use Rattle.wb_codec.specs.declared.datagram.Datagram.TheVariants.{AskPages, Draw
 use Rattle.wb_member.specs.Lines.{Line, Arrives, Calls, Says, after_line, ticks_at}
 use Rattle.wb_member.specs.Opened.{Opened, becomes, opened_with, present, ticked}
 use Rattle.wb_member.specs.declared.calls.Call.TheVariants as calls
-use Rattle.wb_keeping.specs.Kept.{adds, and_then, came, drawing, ends_full, ticks, timed}
+use Rattle.wb_keeping.specs.Kept.{adds, and_then, came, drawing, drew, ends_full, ticks, timed}
 use Rattle.wb_keeping.specs.Laws.{Added, Came, Ticked, Tuned, doing_of, expand}
 use Rattle.wb_keeping.specs.Performing.{Keeping, sees, view_of}
 use Rattle.wb_keeping.proofs.EachLine.{Each, each_both, ends_each, then_each}
@@ -62,13 +62,13 @@ module _ (now : ℕ) (page : PageId) (told : ℕ) (op : Op) (k : Keeping) where
   its = drawing (view_of (ticked now k.host)) page told op
 
   abbrev more : List Line
-  more = (and_then ends_full timed (λ (lines : List Line). sees k.host (Calls (calls.Tick now) ∷ (Says (Draw its) ∷ lines))) k.policy).lines
+  more = (and_then ends_full timed (λ (lines : List Line). sees k.host (Calls (calls.Tick now) ∷ (Says (Draw its) ∷ lines))) (drew its (view_of (ticked now k.host)) k.policy)).lines
 
   abbrev none : DrawopValue → Type 0
   none d = ⊥
 
   more_given : Each (IsGiven none) more
-  more_given = then_each (IsGiven none) ends_full timed (ends_each (IsGiven none) (of_policy none)) (timed_given none) (λ (lines : List Line). sees k.host (Calls (calls.Tick now) ∷ (Says (Draw its) ∷ lines))) k.policy
+  more_given = then_each (IsGiven none) ends_full timed (ends_each (IsGiven none) (of_policy none)) (timed_given none) (λ (lines : List Line). sees k.host (Calls (calls.Tick now) ∷ (Says (Draw its) ∷ lines))) (drew its (view_of (ticked now k.host)) k.policy)
 
   abbrev with_its : Opened
   with_its = after_line (Says (Draw its)) (ticked now k.host)

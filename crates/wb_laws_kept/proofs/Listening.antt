@@ -27,7 +27,7 @@ use Rattle.wb_member.specs.Opened.{Opened, doing, has_room_for, heard, last_numb
 use Rattle.wb_member.specs.Random.{word_of}
 use Rattle.wb_member.specs.declared.calls.Call.TheVariants as calls
 use Rattle.wb_policy.specs.Choices.{echoed_delay, own_echo, own_marks, told_names}
-use Rattle.wb_keeping.specs.Kept.{Doing, Transition, and_then, came, drawing, ends_full, hears, hears_session, hears_some, hears_state, learned, measures, performs, still, timed, want_told, hears_request}
+use Rattle.wb_keeping.specs.Kept.{Doing, Transition, and_then, came, drawing, ends_full, hears, hears_session, hears_some, hears_state, learned, measures, performs, still, timed, want_told, hears_request, drew}
 use Rattle.wb_keeping.specs.Laws.{Added, Came, KeptLine, Ticked, Tuned, after_kept, doing_of}
 use Rattle.wb_keeping.specs.Performing.{Keeping, after_doing, sees, view_of}
 use Rattle.wb_policy.specs.Policy.{Policy, after_state, after_taking_up}
@@ -241,7 +241,7 @@ kept_own (Ticked now) k =
 kept_own (Added now page time op) k =
     let me = k.host.is.number in
     let its = drawing (view_of (after_line (Calls (calls.Tick now)) k.host)) page time op in
-    (tt, (tt, then_each (IsOwn me) ends_full timed (ends_each (IsOwn me) (of_policy me)) (timed_each (IsOwn me) (of_policy me)) (λ (lines : List Line). sees k.host (Calls (calls.Tick now) ∷ (Says (Draw its) ∷ lines))) k.policy))
+    (tt, (tt, then_each (IsOwn me) ends_full timed (ends_each (IsOwn me) (of_policy me)) (timed_each (IsOwn me) (of_policy me)) (λ (lines : List Line). sees k.host (Calls (calls.Tick now) ∷ (Says (Draw its) ∷ lines))) (drew its (view_of (after_line (Calls (calls.Tick now)) k.host)) k.policy)))
 kept_own (Tuned constants) k = (tt, tt)
 
 one_knows : (page : PageId) (line : KeptLine) (k : Keeping) → HeardItsOwn k.host → Knows page k.host (after_doing (doing_of line) k).host

@@ -262,7 +262,7 @@ steps_tell : HoldsOfSteps Tells
 steps_tell = record {
   due = due_tell;
   ticks = λ now k later. one_tells k (Calls (calls.Tick now)) (λ fits v c. tick_tells k.host.is.number k.host.is.held _ v c);
-  arrives = λ d k. silent k (Arrives d ∷ []) (having (Arrives d) k) refl (λ host. refl, tt);
+  arrives = λ d k free. silent k (Arrives d ∷ []) (having (Arrives d) k) refl (λ host. refl, tt);
   answered = λ d k lacks asked. silent k (Arrives d ∷ []) (with_policy (after_came k.policy) (having (Arrives d) k)) refl (λ host. refl, tt);
   hears = λ h k. one_tells k (Calls (calls.Hear h)) (λ fits v c. hears_tells h k.host (few_held k.host fits) v c);
   stops = λ name k full. silent k (Calls (calls.Stop name) ∷ []) (having (Calls (calls.Stop name)) k) refl (λ host. refl, tt);
@@ -270,7 +270,8 @@ steps_tell = record {
   lends = λ source k. silent k (Calls (calls.SetDelay source k.policy.usual) ∷ []) (having (Calls (calls.SetDelay source k.policy.usual)) k) refl (λ host. refl, tt);
   takes_back = λ source k. silent k (Calls (calls.SetDelay source UNKNOWN_DELAY) ∷ []) (having (Calls (calls.SetDelay source UNKNOWN_DELAY)) k) refl (λ host. refl, tt);
   tunes = λ constants k in_range. silent k (Calls (calls.Tune constants) ∷ []) (having (Calls (calls.Tune constants)) k) refl (λ host. refl, tt);
-  draws = λ d k. one_tells k (Says (Draw d)) (λ fits v c. said_tells d k.host v (becomes d k.host) c);
+  draws = λ d k unasked. one_tells k (Says (Draw d)) (λ fits v c. said_tells d k.host v (becomes d k.host) c);
+  drawn = λ d k asked. let one = one_tells k (Says (Draw d)) (λ fits v c. said_tells d k.host v (becomes d k.host) c) in record { same = one.same; tells = one.tells };
   measured = λ micros k. silent k [] (with_policy (after_echo micros k.policy) k) refl tt;
   told = λ k. silent k [] (with_policy (after_state (present k.host) k.policy) k) refl tt;
   takes_up = λ k is. silent k [] (with_policy (after_taking_up (present k.host) k.policy) k) refl tt;

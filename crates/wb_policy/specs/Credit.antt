@@ -10,6 +10,10 @@ has_credit owed now = nat_le (max owed now - now) ((PLACES - 1) * COST)
 abbrev pub leaves_some : ℕ → ℕ → Bool
 leaves_some owed now = nat_le (max owed now - now) ((PLACES_OF_LAST - 1) * COST)
 
+-- Less is owed than this many timers cost, by one of them at least: so one may give way to another, or start anew, and no more is owed than stands asked.
+abbrev pub is_covered : ℕ → ℕ → ℕ → Bool
+is_covered count owed now = nat_le (max owed now - now) ((count - 1) * COST)
+
 -- up to which moment names are paid for, once one more is asked for
 abbrev pub spent : ℕ → ℕ → ℕ
 spent owed now = max owed now + COST

@@ -68,6 +68,10 @@ after_wanting now p = record p { owed = spent p.owed now }
 abbrev pub after_came : Policy → Policy
 after_came p = record p { owed = repaid p.owed; pace = hurried p.pace }
 
+-- its user drew the name that it asked for
+abbrev pub after_drawing : Policy → Policy
+after_drawing p = record p { owed = repaid p.owed }
+
 -- a hole has its turn; another round begins
 abbrev pub after_turn : Hole → Policy → Policy
 after_turn hole p = record p { turns = after_hole p.turns hole }

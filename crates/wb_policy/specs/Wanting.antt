@@ -1,7 +1,7 @@
 -- Which names are asked for.
 use Rattle.std.specs.Prelude.{ℕ, Bool, true, false, not, ◌&&◌, ◌||◌, List, [], ◌∷◌, Option, Some, None, length, nat_le, nat_lt, if◌then◌else◌}
 use Rattle.std.specs.List.{fold}
-use Rattle.wb_policy.specs.Credit.{has_credit, leaves_some}
+use Rattle.wb_policy.specs.Credit.{has_credit, is_covered, leaves_some}
 use Rattle.wb_recovery.specs.declared.limits.TheConstants.{MOST_TIMERS}
 use Rattle.wb_policy.specs.declared.limits.TheConstants.{OLD_LEVEL, TIMERS_BEFORE_TURNS}
 use Rattle.wb_policy.specs.declared.wanting.AskedName.{AskedName}
@@ -10,20 +10,20 @@ use Rattle.wb_policy.specs.declared.wanting.AskedName.{AskedName}
 abbrev pub is_old : ℕ → Bool
 is_old level = nat_le OLD_LEVEL level
 
--- It goes on, unless it is to start anew and is old.
-abbrev pub goes_on : Bool → Option ℕ → Bool
-goes_on anew None = false
-goes_on anew (Some level) = not (anew && is_old level)
+-- It goes on, unless it is to start anew, is old, and less is owed than stands asked.
+abbrev pub goes_on : Bool → Bool → Option ℕ → Bool
+goes_on anew covered None = false
+goes_on anew covered (Some level) = not (anew && (is_old level && covered))
 
 -- There is credit as long as a place is left. What comes last leaves sixteen places to all others.
 abbrev pub is_paid : Bool → ℕ → ℕ → Bool
 is_paid true owed now = has_credit owed now
 is_paid false owed now = leaves_some owed now
 
--- A name that is not held is asked for if the board has room for it, no timer of it goes on, and there is credit. Neighbours of what
+-- While `count` timers stand, a name that is not held is asked for if the board has room for it, no timer of it goes on, and there is credit. Neighbours of what
 -- came come last if their source told no delay, so that drawops that are forged with holes leave room for what members draw and report.
-abbrev pub is_wanted : Bool → Bool → Bool → Bool → Option ℕ → ℕ → ℕ → Bool
-is_wanted held full anew known level owed now = not held && (not full && (not (goes_on anew level) && is_paid (anew || known) owed now))
+abbrev pub is_wanted : Bool → Bool → Bool → Bool → Option ℕ → ℕ → ℕ → ℕ → Bool
+is_wanted held full anew known level count owed now = not held && (not full && (not (goes_on anew (is_covered count owed now) level) && is_paid (anew || known) owed now))
 
 -- Turns pass over what is asked for while a place of the credit is left and fewer than 56 timers stand. So they give up old timers alone.
 abbrev pub passes_on : ℕ → ℕ → ℕ → Bool
@@ -38,14 +38,14 @@ abbrev pub oldest : List AskedName → Option AskedName
 oldest [] = None
 oldest (asked ∷ later) = Some (fold older asked later)
 
--- The oldest timer gives way to that of another name if 64 stand, or it is old.
-abbrev pub gives_way : ℕ → ℕ → Bool
-gives_way count level = nat_le MOST_TIMERS count || is_old level
+-- The oldest timer gives way to that of another name if 64 stand, or it is old, and less is owed than stands asked.
+abbrev pub gives_way : Bool → ℕ → ℕ → Bool
+gives_way covered count level = nat_le MOST_TIMERS count || (is_old level && covered)
 
-abbrev pub way_of : ℕ → Option AskedName → Option AskedName
-way_of count None = None
-way_of count (Some a) = if gives_way count a.level then Some a else None
+abbrev pub way_of : Bool → ℕ → Option AskedName → Option AskedName
+way_of covered count None = None
+way_of covered count (Some a) = if gives_way covered count a.level then Some a else None
 
 -- the name that is given up when another is newly asked for
-abbrev pub giving_way : List AskedName → Option AskedName
-giving_way asked = way_of (length asked) (oldest asked)
+abbrev pub giving_way : Bool → List AskedName → Option AskedName
+giving_way covered asked = way_of covered (length asked) (oldest asked)

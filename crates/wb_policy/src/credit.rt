@@ -2,7 +2,7 @@
 
 ghost use Rattle.std.specs.Prelude.{◌≡◌, ◌<◌, ◌^◌, IsTrue};
 ghost use Rattle.wb_names.specs.Moments.{IsMoment};
-ghost use Rattle.wb_policy.specs.Credit.{has_credit, repaid, spent};
+ghost use Rattle.wb_policy.specs.Credit.{has_credit, is_covered, repaid, spent};
 ghost use Rattle.wb_policy.specs.Wanting.{is_paid};
 
 use crate::limits::{COST, PAYS, PLACES, PLACES_OF_LAST};
@@ -40,6 +40,15 @@ impl Credit {
         } else {
             Credit::LAST
         };
+        self.owed.saturating_sub(now) <= most
+    }
+
+    /// Whether less is owed at this moment than `count` timers cost, by one of them at least. So
+    /// one may give way to another, or start anew, and no more is owed than stands asked.
+    pub fn is_covered(&self, count: usize, now: u64) -> bool
+        ensures { result ≡ is_covered count self.now.owed now }
+    {
+        let most = (count as u64).saturating_sub(1).saturating_mul(COST);
         self.owed.saturating_sub(now) <= most
     }
 

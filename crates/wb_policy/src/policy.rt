@@ -5,11 +5,12 @@ ghost use Rattle.std.specs.Prelude.{◌≡◌, ◌≤◌, ◌<◌, ◌+◌, if�
 ghost use Rattle.wb_names.specs.Moments.{IsMoment};
 ghost use Rattle.wb_policy.specs.declared.limits.TheConstants.{LISTEN_LIMIT, LONGEST_GAP, LONGEST_PAUSE, MEMBERS, MOST_BYTES, MOST_DELAY, SHORTEST_GAP, SHORTEST_PAUSE};
 ghost use Rattle.wb_policy.specs.Delays.{bounded};
-ghost use Rattle.wb_policy.specs.Policy.{after_answer, after_beat, after_came, after_leaping, after_question, after_report, after_state, after_taking_up, after_turn, after_wanting, begun, in_next_leaps, in_next_round, next_moment, sooner, after_echo};
+ghost use Rattle.wb_policy.specs.Policy.{after_answer, after_beat, after_came, after_drawing, after_leaping, after_question, after_report, after_state, after_taking_up, after_turn, after_wanting, begun, in_next_leaps, in_next_round, next_moment, sooner, after_echo};
 ghost use Rattle.wb_policy.specs.Leaps.{far_name};
 ghost use Rattle.wb_policy.specs.Questions.{is_due, is_to_answer};
 ghost use Rattle.wb_policy.specs.Reports.{is_telling};
 ghost use Rattle.wb_policy.specs.Turns.{name_in};
+ghost use Rattle.wb_policy.specs.Credit.{is_covered};
 ghost use Rattle.wb_policy.specs.Wanting.{is_wanted, passes_on};
 
 use crate::credit::Credit;
@@ -126,7 +127,7 @@ impl Policy {
     pub fn want(&mut self, candidate: &Candidate, may_start_anew: bool, now: u64) -> bool
         requires { IsMoment now }
         ensures wanted { result ≡ is_wanted candidate.now.is_held candidate.now.is_full
-            may_start_anew candidate.now.is_known candidate.now.level self.old.owed now }
+            may_start_anew candidate.now.is_known candidate.now.level candidate.now.asks self.old.owed now }
         ensures spent { self.new ≡ (if result then after_wanting now self.old else self.old) }
     {
         if !candidate.is_wanted(&self.credit, may_start_anew, now) {
@@ -136,12 +137,26 @@ impl Policy {
         true
     }
 
+    /// Whether less is owed than these request timers cost, by one of them at least.
+    pub fn is_covered(&self, asks: usize, now: u64) -> bool
+        ensures { result ≡ is_covered asks self.now.owed now }
+    {
+        self.credit.is_covered(asks, now)
+    }
+
     /// A name that was asked for came: it pays, and turns come each second again.
     pub fn came(&mut self)
         ensures { self.new ≡ after_came self.old }
     {
         self.credit.repay();
         self.pace.hurry();
+    }
+
+    /// Its user drew a name that it asked for, which pays too.
+    pub fn drew(&mut self)
+        ensures { self.new ≡ after_drawing self.old }
+    {
+        self.credit.repay();
     }
 
     /// Whether turns pass over what is asked for, while `timers` request timers stand.

@@ -19,28 +19,30 @@ pub struct Candidate {
     pub is_known: bool,
     /// How often its request timer was backed off. None if none stands.
     pub level: Option<u32>,
+    /// How many request timers stand.
+    pub asks: usize,
 }
 
 impl Candidate {
     /// Whether it is asked for at this moment, at this credit: a timer that stands goes on, unless
-    /// it is old and may start anew. A neighbour of what came, which starts nothing anew, comes
-    /// last if the delay to its source is not known.
+    /// it may start anew, is old, and less is owed than stands asked. A neighbour of what came,
+    /// which starts nothing anew, comes last if the delay to its source is not known.
     pub fn is_wanted(&self, credit: &Credit, may_start_anew: bool, now: u64) -> bool
         ensures { result ≡ is_wanted self.now.is_held self.now.is_full may_start_anew
-            self.now.is_known self.now.level credit.now.owed now }
+            self.now.is_known self.now.level self.now.asks credit.now.owed now }
     {
         !self.is_held
             && !self.is_full
-            && !self.goes_on(may_start_anew)
+            && !self.goes_on(may_start_anew, credit.is_covered(self.asks, now))
             && credit.is_left(may_start_anew || self.is_known, now)
     }
 
     /// Whether a timer of it goes on.
-    fn goes_on(&self, may_start_anew: bool) -> bool
-        ensures { result ≡ goes_on may_start_anew self.now.level }
+    fn goes_on(&self, may_start_anew: bool, is_covered: bool) -> bool
+        ensures { result ≡ goes_on may_start_anew is_covered self.now.level }
     {
         match self.level {
-            Some(level) => !(may_start_anew && is_old(level)),
+            Some(level) => !(may_start_anew && is_old(level) && is_covered),
             None => false,
         }
     }
@@ -62,13 +64,13 @@ pub struct AskedName {
     pub level: u32,
 }
 
-/// The one that is given up when another is newly asked for: the oldest, if 64 timers stand or it
-/// is old. None if none gives way.
-pub fn giving_way(asked: &[AskedName]) -> Option<AskedName>
-    ensures { result ≡ giving_way asked.now }
+/// The one that is given up when another is newly asked for: the oldest, if 64 timers stand, or it
+/// is old, and less is owed than stands asked. None if none gives way.
+pub fn giving_way(is_covered: bool, asked: &[AskedName]) -> Option<AskedName>
+    ensures { result ≡ giving_way is_covered asked.now }
 {
     let oldest = oldest(asked)?;
-    if gives_way(asked.len(), oldest.level) {
+    if gives_way(is_covered, asked.len(), oldest.level) {
         Some(oldest)
     } else {
         None
@@ -76,10 +78,10 @@ pub fn giving_way(asked: &[AskedName]) -> Option<AskedName>
 }
 
 /// Whether the oldest of `count` timers gives way, if it was backed off `level` times.
-fn gives_way(count: usize, level: u32) -> bool
-    ensures { result ≡ gives_way count level }
+fn gives_way(is_covered: bool, count: usize, level: u32) -> bool
+    ensures { result ≡ gives_way is_covered count level }
 {
-    count >= MOST_TIMERS || is_old(level)
+    count >= MOST_TIMERS || (is_old(level) && is_covered)
 }
 
 /// The one whose timer was backed off most, and the first of these. None if there is none.

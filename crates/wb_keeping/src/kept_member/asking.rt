@@ -1,5 +1,5 @@
 //! What a self-managing member asks for.
-ghost use Rattle.std.specs.Prelude.{◌≡◌, ◌≤◌, ◌<◌, ◌^◌, ◌∷◌, [], IfOk, OnErr, OnOk, IfSome};
+ghost use Rattle.std.specs.Prelude.{◌≡◌, ◌≤◌, ◌<◌, ◌^◌, ◌∷◌, [], IfOk, OnErr, OnOk, IfSome, length, if◌then◌else◌};
 ghost use Rattle.wb_recovery.specs.Delays.{IsDelay};
 ghost use Rattle.wb_keeping.specs.Kept.{end, ends_full, is_begun, is_unasked, leap, leaps_on, learned, paid_for, stops_one, turn, turn_if, turns_due, turns_on, turns_past, want, want_near, want_told};
 ghost use Rattle.wb_recovery.specs.Events.{timers_of};
@@ -7,6 +7,7 @@ ghost use Rattle.wb_member.specs.Opened.{events};
 ghost use Rattle.wb_keeping.specs.Performing.{Begins, DoesQuietly, IsKeptAt, Keeping, LeavesSome, asked_with, sees, view_of};
 ghost use Rattle.wb_keeping.specs.Views.{holds, is_asked, is_full, is_known, level};
 ghost use Rattle.wb_policy.specs.Wanting.{giving_way};
+ghost use Rattle.wb_policy.specs.Policy.{after_drawing};
 ghost use Rattle.wb_keeping.specs.Steps.{AreNear, leap_again, leap_in, lent_at, lowest_near, makes_room, performs_all, turn_again, want_in};
 
 use crate::kept_member::KeptMember;
@@ -34,10 +35,11 @@ impl KeptMember {
         let now = self.member.moment();
         let candidate = self.candidate(name);
         let lent = self.lent_to(name.source());
+        let is_covered = self.policy.is_covered(candidate.asks, now);
         if !self.policy.want(&candidate, may_start_anew, now) {
             return Ok(false);
         }
-        self.make_room(alloc, name)?;
+        self.make_room(alloc, name, is_covered)?;
         self.ask_by(alloc, name, lent)?;
         Ok(true)
     }
@@ -52,13 +54,23 @@ impl KeptMember {
             result.is_known ≡ is_known (view_of k.host) name.now.source }
         ensures level { (k : Keeping) → IsKeptAt self.now k →
             result.level ≡ level (view_of k.host) name.now }
+        ensures asks { (k : Keeping) → IsKeptAt self.now k →
+            result.asks ≡ length (view_of k.host).asked }
     {
         Candidate {
             is_held: self.member.holds(name),
             is_full: self.member.is_full(),
             is_known: self.is_known(name.source()),
             level: self.level(name),
+            asks: self.asks(),
         }
+    }
+
+    /// How many request timers stand.
+    fn asks(&self) -> usize
+        ensures { (k : Keeping) → IsKeptAt self.now k → result ≡ length (view_of k.host).asked }
+    {
+        self.member.asks()
     }
 
     /// Whether the delay to a source is known.
@@ -97,9 +109,10 @@ impl KeptMember {
         }
     }
 
-    /// Stops the timer of a name, if it has one, or else the timer that gives way to another.
-    fn make_room(&mut self, alloc: Global, name: &Name) -> Result<(), AllocError>
-        ensures does { OnOk result (DoesQuietly (makes_room name.now) self.old self.new) }
+    /// Stops the timer of a name, if it has one, or else the timer that gives way to another, if
+    /// less is owed than stands asked or not.
+    fn make_room(&mut self, alloc: Global, name: &Name, is_covered: bool) -> Result<(), AllocError>
+        ensures does { OnOk result (DoesQuietly (makes_room name.now is_covered) self.old self.new) }
         ensures err { OnErr result (self.new ≡ self.old) }
     {
         if self.is_asked(name) {
@@ -107,15 +120,15 @@ impl KeptMember {
             return Ok(());
         }
         let asked = self.asked(alloc)?;
-        self.stop_one(&asked);
+        self.stop_one(is_covered, &asked);
         Ok(())
     }
 
     /// Stops the one of some timers that gives way to another, if one does.
-    fn stop_one(&mut self, asked: &[AskedName])
-        ensures { DoesQuietly (performs_all (stops_one (giving_way asked.now))) self.old self.new }
+    fn stop_one(&mut self, is_covered: bool, asked: &[AskedName])
+        ensures { DoesQuietly (performs_all (stops_one (giving_way is_covered asked.now))) self.old self.new }
     {
-        if let Some(old) = giving_way(asked) {
+        if let Some(old) = giving_way(is_covered, asked) {
             self.stop(&old.name);
         }
     }
@@ -298,6 +311,17 @@ impl KeptMember {
     {
         if was_asked {
             self.policy.came();
+        }
+    }
+
+    /// A drawing pays as what came, if it was asked for.
+    pub(super) fn pay_drawing(&mut self, was_asked: bool)
+        ensures member { self.new.member ≡ self.old.member }
+        ensures policy { self.new.policy ≡
+            (if was_asked then after_drawing self.old.policy else self.old.policy) }
+    {
+        if was_asked {
+            self.policy.drew();
         }
     }
 

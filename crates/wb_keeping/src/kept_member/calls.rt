@@ -1,22 +1,23 @@
 //! What happens to a self-managing member.
-ghost use Rattle.std.specs.Prelude.{◌≡◌, ◌≤◌, ◌<◌, [], IfOk, OnErr, IsTrue, is_some, nat_le};
+ghost use Rattle.std.specs.Prelude.{◌≡◌, ◌≤◌, ◌<◌, [], IfOk, OnErr, OnOk, IsTrue, is_some, nat_le};
 ghost use Rattle.wb_names.specs.Arrivals.{Left};
 ghost use Rattle.wb_names.specs.Moments.{IsMoment};
 ghost use Rattle.wb_names.specs.Faults.{value_unless};
 ghost use Rattle.wb_names.specs.Shapes.{op_of};
 ghost use Rattle.wb_member.specs.Holding.{outcome_in};
-ghost use Rattle.wb_member.specs.Opened.{present};
+ghost use Rattle.wb_member.specs.Opened.{becomes, present};
 ghost use Rattle.wb_member.specs.declared.calls.Call.TheVariants.{Tune};
 ghost use Rattle.wb_keeping.specs.Calls.{IsWithin, Tuned, became_of, doing_of, fault_of, line_of};
-ghost use Rattle.wb_keeping.specs.Kept.{Calls, adds, came, drawing, performs, ticks};
-ghost use Rattle.wb_keeping.specs.Performing.{IsKeptAt, Keeping, LeavesSome, after_doing, sent_by_doing, view_of};
+ghost use Rattle.wb_keeping.specs.Kept.{Calls, adds, came, drawing, draws, performs, ticks};
+ghost use Rattle.wb_keeping.specs.Performing.{Does, IsKeptAt, Keeping, LeavesSome, after_doing, sent_by_doing, view_of};
 ghost use Rattle.wb_keeping.specs.Refusing.{IsRefusedBy, add_fault, came_as, came_fault, drawing_fault, drawn_as, is_unknown, is_unknown_of_ours, tick_fault};
 
 use crate::drawings::time_of;
 use crate::kept_call::KeptCall;
 use crate::kept_fault::KeptFault;
 use crate::kept_member::{KeptDone, KeptMember};
-use std::alloc::Global;
+use std::alloc::{AllocError, Global};
+use wb_board::Reply;
 use wb_codec::Datagram;
 use wb_keeper::KeepFault;
 use wb_names::{Drawop, FIRST_FORGED, Name, PageId, Shape};
@@ -140,10 +141,28 @@ impl KeptMember {
         }
         let drawop = self.drawing(page, time, shape)?;
         let mut sent = self.go_on(alloc, now)?;
-        let became = self.draw(&mut sent, &drawop)?;
+        let became = self.take_drawing(&mut sent, &drawop)?;
         self.end_where_full(alloc)?;
         self.timed(alloc, &mut sent)?;
         Ok(KeptDone { sent, became })
+    }
+
+    /// Its drawing is taken, and sent. If it was asked for, it pays as one that came.
+    fn take_drawing(
+        &mut self,
+        sent: &mut Vec<Datagram>,
+        drawop: &Drawop,
+    ) -> Result<Option<Reply>, AllocError>
+        ensures became { IfOk result (λ reply. (k : Keeping) → IsKeptAt self.old k →
+            outcome_in reply ≡ becomes drawop.now k.host) }
+        ensures does { OnOk result
+            (Does (draws drawop.now) self.old self.new sent.old.items sent.new.items) }
+        ensures left { OnErr result (LeavesSome (draws drawop.now) self.old self.new) }
+    {
+        let was_asked = self.is_asked(&drawop.name());
+        self.pay_drawing(was_asked);
+        let reply = self.draw(sent, drawop)?;
+        Ok(reply)
     }
 
     /// Its timers are given other constants.

@@ -1,7 +1,7 @@
 use Rattle.std.proofs.Common.{◌≡◌, [], ◌++◌, ◌∙◌, ap, rules, subst, sym}
 use Rattle.std.specs.Prelude.{None, nat_le, nat_lt, Err}
 use Rattle.wb_names.specs.Values.{DrawopValue}
-use Rattle.wb_keeping.specs.Kept.{Says, Transition, performs, and_then, ends_full, timed, adds, draws_it, drawing, Calls}
+use Rattle.wb_keeping.specs.Kept.{Transition, performs, and_then, ends_full, timed, adds, draws, draws_it, drawing, Calls}
 use Rattle.wb_keeping.specs.Performing.{IsKeptAt, Keeping, KeptValue, LeavesSome, after_doing, sent_by_doing, view_of}
 use Rattle.wb_policy.specs.Policy.{Policy}
 use Rattle.wb_keeping.proofs.Performed.{then_at, at_inside, does_then}
@@ -9,7 +9,6 @@ use Rattle.wb_keeping.proofs.LeftSome.{LeftAt, on_err, left_first_at, left_secon
 use Rattle.wb_member.specs.Opened.{becomes, present}
 use Rattle.wb_member.specs.declared.calls.Call.TheVariants.{Tick}
 use Rattle.wb_keeping.proofs.Refused.{failed_by, fault_is, refused_by, taken_by, then_fault, value_is}
-use Rattle.wb_codec.specs.declared.datagram.Datagram.TheVariants.{Draw}
 use Rattle.wb_names.specs.Shapes.{op_of}
 use Rattle.wb_keeping.specs.Refusing.{add_fault, drawing_fault}
 use Rattle.wb_keeper.specs.declared.keep_fault.KeepFault.TheVariants.{Memory}
@@ -76,22 +75,22 @@ second c = draws_it c.args.page c.args.time (op_of c.args.shape)
 pub returns-in_err-became-clause-left : goal.returns-in_err-became-clause-left
 returns-in_err-became-clause-left c =
     let here = (goal.at.returns-in_err-became-clause-left c).After-go_on in
-    let left : LeavesSome (adds c.args.now c.args.page c.args.time (op_of c.args.shape)) c.args.self.now c.draw.new.self = record {
+    let left : LeavesSome (adds c.args.now c.args.page c.args.time (op_of c.args.shape)) c.args.self.now c.take_drawing.new.self = record {
       at = λ k at.
           let one = after_doing (first here) k in
           let left = c.in_err-became.ensures.left.at one (c.in_ok-sent.ensures.does.at k at).1 in
-          let drew : LeftAt (second here) one c.draw.new.self = subst (λ (d : DrawopValue). LeftAt (performs (Says (Draw d))) one c.draw.new.self) (drawn here k at).1 left in
-          left_second_at (first here) (and_then (second here) (and_then ends_full timed)) k c.draw.new.self (left_first_at (second here) (and_then ends_full timed) one c.draw.new.self drew);
+          let drew : LeftAt (second here) one c.take_drawing.new.self = subst (λ (d : DrawopValue). LeftAt (draws d) one c.take_drawing.new.self) (drawn here k at).1 left in
+          left_second_at (first here) (and_then (second here) (and_then ends_full timed)) k c.take_drawing.new.self (left_first_at (second here) (and_then ends_full timed) one c.take_drawing.new.self drew);
     } in
     on_err _ left
 
 did : (c : After-end_where_full) (k : Keeping) → IsKeptAt c.args.self.now k → c.in_ok-drawop.drawop ≡ drawing (view_of k.host) c.args.page c.args.time (op_of c.args.shape)
     → let one = after_doing (performs (Calls (Tick c.args.now))) k in
     let draws = draws_it c.args.page c.args.time (op_of c.args.shape) in
-    (c.draw.new.sent.items ≡ c.in_ok-sent.sent.items ++ sent_by_doing draws one) × IsKeptAt c.draw.new.self (after_doing draws one)
+    (c.take_drawing.new.sent.items ≡ c.in_ok-sent.sent.items ++ sent_by_doing draws one) × IsKeptAt c.take_drawing.new.self (after_doing draws one)
 did c k at is =
     let one = after_doing (performs (Calls (Tick c.args.now))) k in
-    subst (λ (d : DrawopValue). (c.draw.new.sent.items ≡ c.in_ok-sent.sent.items ++ sent_by_doing (performs (Says (Draw d))) one) × IsKeptAt c.draw.new.self (after_doing (performs (Says (Draw d))) one)) is
+    subst (λ (d : DrawopValue). (c.take_drawing.new.sent.items ≡ c.in_ok-sent.sent.items ++ sent_by_doing (draws d) one) × IsKeptAt c.take_drawing.new.self (after_doing (draws d) one)) is
     (c.in_ok-became.ensures.does.at one (c.in_ok-sent.ensures.does.at k at).1)
 
 pub returns-clause-sent : goal.returns-clause-sent
@@ -100,9 +99,9 @@ returns-clause-sent c = λ k at.
     let here = at_goal.After-go_on in
     let one = after_doing (first here) k in
     let drew = did at_goal.After-end_where_full k at (drawn here k at).1 in
-    let rest = (does_then ends_full timed (c.in_ok-end_where_full.ensures.does.sends c.draw.new.sent.items) c.in_ok-timed.ensures.does).at (after_doing (second here) one) drew.1 in
+    let rest = (does_then ends_full timed (c.in_ok-end_where_full.ensures.does.sends c.take_drawing.new.sent.items) c.in_ok-timed.ensures.does).at (after_doing (second here) one) drew.1 in
     then_at (first here) (and_then (second here) (and_then ends_full timed)) k c.go_on.new.self c.timed.new.self [] c.in_ok-sent.sent.items c.timed.new.sent.items (c.in_ok-sent.ensures.does.at k at)
-    (then_at (second here) (and_then ends_full timed) one c.draw.new.self c.timed.new.self c.in_ok-sent.sent.items c.draw.new.sent.items c.timed.new.sent.items drew rest)
+    (then_at (second here) (and_then ends_full timed) one c.take_drawing.new.self c.timed.new.self c.in_ok-sent.sent.items c.take_drawing.new.sent.items c.timed.new.sent.items drew rest)
 
 pub returns-in_err-end_where_full-clause-left : goal.returns-in_err-end_where_full-clause-left
 returns-in_err-end_where_full-clause-left c =
@@ -111,7 +110,7 @@ returns-in_err-end_where_full-clause-left c =
     let left : LeavesSome (adds c.args.now c.args.page c.args.time (op_of c.args.shape)) c.args.self.now c.end_where_full.new.self = record {
       at = λ k at.
           let one = after_doing (first here) k in
-          let none : LeavesSome ends_full c.draw.new.self c.end_where_full.new.self = left_none ends_full (ap (λ (v : KeptValue). v.member) c.in_err-end_where_full.ensures.err) in
+          let none : LeavesSome ends_full c.take_drawing.new.self c.end_where_full.new.self = left_none ends_full (ap (λ (v : KeptValue). v.member) c.in_err-end_where_full.ensures.err) in
           let left = none.at (after_doing (second here) one) (did at_goal.After-end_where_full k at (drawn here k at).1).1 in
           left_second_at (first here) (and_then (second here) (and_then ends_full timed)) k c.end_where_full.new.self
           (left_second_at (second here) (and_then ends_full timed) one c.end_where_full.new.self
