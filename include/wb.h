@@ -1,5 +1,9 @@
 /* wb.h: a host of a shared whiteboard in this process, by the library libwb.
  *
+ * Threads: one call at a time is made for a host. Its calls are made by one thread, or go from one to another in an order that a lock or a
+ * join gives. Different hosts may be called by different threads at once. No call is made by a signal handler, or by the child of a fork of a
+ * process with threads.
+ *
  * A host takes the lines that `wb host` takes, and gives the same blocks for them (docs/HOST.md). It has no socket, no clock, no thread and
  * no global: there may be many hosts, each with calls of its own, and your program has the network, the clock and the screen.
  *
@@ -20,9 +24,12 @@
  * What is proved of the calls, and what their caller owes, is in docs/proofs/wb_c.md. What a caller owes, nobody checks:
  *
  * - A `wb_host` is WB_HOST_CLOSED at first, is not copied, and nothing but these calls writes it.
- * - One call at a time is made for a host. Its calls are made by one thread, or go from one to another in an order that a lock or a join gives.
- * - No pointer is NULL, also where a length is 0, and what the pointers of one call point to lies apart from one another.
- * - No call is made by a signal handler, or by the child of a fork of a process with threads.
+ * - No pointer is NULL, also where a length is 0, and what the pointers of one call point to lies apart from one another. Compilers that know
+ *   attributes warn of a NULL, and of a buffer that is shorter than its length says, where they see either.
+ * - The thread rules above.
+ *
+ * The shared library is libwb.so.0. Until 1.0.0 a version may change anything, and CHANGELOG.md says what. A later one may have more statuses and
+ * kinds of events. A status that is not below: the call changed nothing. An event whose kind is not below: fetch it and go on.
  */
 #ifndef WB_H
 #define WB_H
@@ -30,6 +37,29 @@
 #include <stdbool.h>
 #include <stddef.h>
 #include <stdint.h>
+
+/* The version of this header: as a text, and as 10,000 times its first number, 100 times its second and its third. */
+#define WB_VERSION "0.1.0"
+#define WB_VERSION_NUMBER 100
+
+/* For the compiler: no pointer is NULL; and the bytes that a call reads or writes, as the places of the pointer and of the length among the words
+ * of the call. */
+#if defined(__GNUC__) && defined(__has_attribute)
+#if __has_attribute(nonnull)
+#define WB_NOT_NULL __attribute__((nonnull))
+#endif
+#if __has_attribute(access)
+#define WB_READS(at, length) __attribute__((access(read_only, at, length)))
+#define WB_WRITES(at, length) __attribute__((access(write_only, at, length)))
+#endif
+#endif
+#ifndef WB_NOT_NULL
+#define WB_NOT_NULL
+#endif
+#ifndef WB_READS
+#define WB_READS(at, length)
+#define WB_WRITES(at, length)
+#endif
 
 #ifdef __cplusplus
 extern "C" {
@@ -130,20 +160,24 @@ enum {
 #define WB_NEVER UINT64_MAX
 
 /* Opens a host: WB_DONE, WB_MEMORY or WB_OPEN. It has no board until the line `board`. */
+WB_NOT_NULL
 uint32_t wb_open(wb_host *host);
 
 /* Takes one line, of `length` bytes without its line feed, and writes its block at the front of the buffer: the lines that it prints, each
  * with its line feed, the last of which is `ok DUE` or `refused FAULT`. There is no zero byte behind it. `size` tells how many bytes it has,
  * also where the buffer has no room for it. Then nothing is written, and the block is kept until wb_block fetches it: no line is told twice.
  * WB_DONE, WB_WAITS, WB_NOT_DONE, WB_CLOSED or WB_MEMORY. A line that is refused is WB_DONE: its block says why. */
+WB_NOT_NULL WB_READS(2, 3) WB_WRITES(4, 5)
 uint32_t wb_line(wb_host *host, const void *line, size_t length, void *buffer, size_t room, size_t *size);
 
 /* Fetches the block that waits; where none does, `size` is 0. WB_DONE, WB_WAITS or WB_CLOSED. */
+WB_NOT_NULL WB_WRITES(2, 3)
 uint32_t wb_block(wb_host *host, void *buffer, size_t room, size_t *size);
 
 /* A datagram of `length` bytes came in at a moment, in microseconds: the line `came`. For each datagram that is to be sent an event WB_SENT
  * is added behind those that wait, in order, and then, if a drawop came in, what became of it.
  * WB_DONE, WB_NO_MOMENT, WB_NO_DATAGRAM + FAULT, WB_JUDGED, WB_NOT_KEPT, WB_BACK_IN_TIME, WB_OURS, WB_CLOSED or WB_MEMORY. */
+WB_NOT_NULL WB_READS(3, 4)
 uint32_t wb_came(wb_host *host, uint64_t now, const void *datagram, size_t length);
 
 /* Bytes came in from an origin, at a judged host: the line `came`. An origin is a place, as the network names it, and an owner if the network
@@ -151,18 +185,22 @@ uint32_t wb_came(wb_host *host, uint64_t now, const void *datagram, size_t lengt
  * of the line, in its order: why it is dropped, what to record, what is held now, what to send, what became of a drawop, from where to take a
  * stream, and what to warn people of.
  * WB_DONE, WB_NO_MOMENT, WB_NOT_JUDGED, WB_BACK_IN_TIME, WB_CLOSED or WB_MEMORY. */
+WB_NOT_NULL WB_READS(6, 7)
 uint32_t wb_came_from(wb_host *host, uint64_t now, uint64_t place, uint64_t owner, bool has_owner, const void *datagram, size_t length);
 
 /* The time of day at a moment, in microseconds since 1970, at a judged host: the line `wall`. Events as there.
  * WB_DONE, WB_NO_MOMENT, WB_NO_TIME, WB_NOT_JUDGED, WB_BACK_IN_TIME, WB_CLOSED or WB_MEMORY. */
+WB_NOT_NULL
 uint32_t wb_wall(wb_host *host, uint64_t now, uint64_t wall);
 
 /* The network says that whoever spoke from an origin is gone, at a judged host: the line `gone`. Events as there.
  * WB_DONE, WB_NO_MOMENT, WB_NOT_JUDGED, WB_BACK_IN_TIME, WB_CLOSED or WB_MEMORY. */
+WB_NOT_NULL
 uint32_t wb_gone(wb_host *host, uint64_t now, uint64_t place, uint64_t owner, bool has_owner);
 
 /* Time goes on to a moment: the line `tick`. Events as above, at a judged host as at wb_came_from.
  * WB_DONE, WB_NO_MOMENT, WB_NOT_KEPT, WB_BACK_IN_TIME, WB_CLOSED or WB_MEMORY. */
+WB_NOT_NULL
 uint32_t wb_tick(wb_host *host, uint64_t now);
 
 /* The user draws: the line `add`. The bytes are the datagram of a drawop with the page, the time and the operation of the drawing; its source
@@ -171,21 +209,26 @@ uint32_t wb_tick(wb_host *host, uint64_t now);
  * is full.
  * WB_DONE, WB_NO_MOMENT, WB_NO_DATAGRAM + FAULT, WB_NO_DRAWOP, WB_NOT_KEPT, WB_TWIN, WB_FULL, WB_BACK_IN_TIME, WB_LISTENING, WB_NUMBERS,
  * WB_NO_OPERATION + FAULT, WB_CLOSED or WB_MEMORY. */
+WB_NOT_NULL WB_READS(3, 4)
 uint32_t wb_add(wb_host *host, uint64_t now, const void *drawop, size_t length);
 
 /* Asks a question about a page, which changes nothing; an event for each item of the answer is added behind those that wait.
  * WB_DONE, WB_NO_QUESTION, WB_NOT_KEPT, WB_CLOSED or WB_MEMORY. */
+WB_NOT_NULL
 uint32_t wb_ask(wb_host *host, uint32_t question, uint32_t creator, uint32_t number, uint32_t width, uint32_t height);
 
 /* Fetches the next event: its kind, and its bytes at the front of the buffer. `size` tells how many these are, also where the buffer has no
  * room for them: then nothing is written, and the event waits. Each event is fetched once, and they come in the order of the calls.
  * WB_DONE, WB_WAITS, WB_NOTHING, WB_CLOSED or WB_MEMORY. */
+WB_NOT_NULL WB_WRITES(3, 4)
 uint32_t wb_event(wb_host *host, uint32_t *kind, void *buffer, size_t room, size_t *size);
 
 /* The next moment at which a tick is due, in microseconds, or WB_NEVER. */
+WB_NOT_NULL
 uint64_t wb_due(wb_host *host);
 
 /* Closes a host, and frees what it has. A closed one stays closed, and any may be opened anew. */
+WB_NOT_NULL
 void wb_close(wb_host *host);
 
 #ifdef __cplusplus

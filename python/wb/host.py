@@ -4,7 +4,7 @@ from __future__ import annotations
 import enum
 import random
 from types import TracebackType
-from typing import Dict, List, NamedTuple, Optional, Sequence, Tuple, Type, Union
+from typing import Dict, Iterable, List, NamedTuple, Optional, Sequence, Tuple, Type, Union
 
 from .blocks import Block
 from .child import ChildHost
@@ -157,6 +157,15 @@ class Host:
         """The user draws, as `line 0 0 4 0 *`, `text 0 1 "hello"` or `delete 7 1`. If two drawops cover one cell, the one with the
         greater time is seen: use the microseconds of the time of day."""
         return answer_of(self.must("add %d %d %s %s" % (now, time, page_of(page), operation)))
+
+    def add_all(self, now: int, time: int, page: AnyPage, operations: Iterable[str]) -> List[Answer]:
+        """Draws one after another, until one has no room. Refused at the first that the host does not take; those before it are drawn."""
+        answers: List[Answer] = []
+        for operation in operations:
+            answers.append(self.add(now, time, page, operation))
+            if answers[-1].became is Became.FULL:
+                break
+        return answers
 
     def tune(self, c1: int, c2: int, d1: int, d2: int) -> None:
         """Gives the timers other constants, 1 to 16 each."""

@@ -106,16 +106,21 @@ class Member(asyncio.DatagramProtocol):
     def draw(self, page: AnyPage, operation: str) -> Answer:
         """Draws, as `line 0 0 4 0 *`, and sends it to all others. Refused where the host does not take it, as before it is `ready`. Where the
         record can't be written, by an OSError, it breaks off."""
+        return self.draw_all(page, [operation])[0]
+
+    def draw_all(self, page: AnyPage, operations: Iterable[str]) -> List[Answer]:
+        """Draws one after another, until one has no room; the record takes them by one sync of the disk."""
         self.tick_if_due()
         try:
-            answer = self.host.add(self.now(), self.time_of_day() // 1000, page, operation)
+            answers = self.host.add_all(self.now(), self.time_of_day() // 1000, page, operations)
         except (HostEnded, OSError) as fault:
             self.break_off(fault)
             raise
-        self.obey(answer)
-        if answer.became is not Became.FULL:
+        for answer in answers:
+            self.obey(answer)
+        if any(answer.became is not Became.FULL for answer in answers):
             self.tell(page_of(page))
-        return answer
+        return answers
 
     async def changes(self) -> AsyncIterator[Page]:
         """Each page that something new was drawn on, until the member ends. A page that changes often comes once for several changes."""

@@ -8,7 +8,7 @@ import random
 import re
 import time
 from pathlib import Path
-from typing import Any, List, Sequence, Union
+from typing import Any, Iterable, List, Sequence, Union
 
 from .blocks import Block
 from .child import ChildHost
@@ -41,13 +41,14 @@ class Record:
             if not text.startswith(FIRST_LINE.encode()[:len(text)]):
                 raise Refused(path, "it is no record")
             # a last line without its line feed was cut off, and nothing of it was sent
-            self.size = text.rfind(b"\n") + 1
+            self.size = self.synced = text.rfind(b"\n") + 1
             os.ftruncate(self.file, self.size)
         except BaseException:
             os.close(self.file)
             raise
         self.lines = text[:self.size].decode("latin-1").splitlines()
         self.is_broken = False
+        self.is_due = self.is_held = False  # whether lines wait for a sync, and whether that waits for more of them
 
     def add(self, lines: Sequence[str]) -> None:
         """Puts lines at the end, all or none; what this member drew is on the disk then. OSError where there is no room."""
@@ -57,13 +58,29 @@ class Record:
         try:
             if os.pwrite(self.file, text, self.size) < len(text):
                 raise OSError(errno.ENOSPC, "there is no room for the record", self.path)
-            if any(line.startswith(("say ", "#")) for line in lines):
-                os.fsync(self.file)
         except OSError:
-            self.is_broken = True
-            os.ftruncate(self.file, self.size)
+            self.cut(self.size)
             raise
         self.size += len(text)
+        self.is_due = self.is_due or any(line.startswith(("say ", "#")) for line in lines)
+        self.sync()
+
+    def sync(self) -> None:
+        """Puts on the disk what is due."""
+        if not self.is_due or self.is_held:
+            return
+        try:
+            os.fsync(self.file)
+        except OSError:
+            self.cut(self.synced)
+            raise
+        self.is_due, self.synced = False, self.size
+
+    def cut(self, size: int) -> None:
+        """Takes off what could not be written. Nothing is written from then on."""
+        self.is_broken = True
+        os.ftruncate(self.file, size)
+        self.size = size
 
     def sync_name(self) -> None:
         """Puts the name of a new file on the disk."""
@@ -158,6 +175,16 @@ class RecordedHost(Host):
         if answer.refused is not None:
             raise Refused(line, answer.refused)
         return answer._replace(send=sent + answer.send)
+
+    def add_all(self, now: int, time: int, page: AnyPage, operations: Iterable[str]) -> List[Answer]:
+        """The same, by one sync of the disk."""
+        with self.by.lock:
+            self.record.is_held = True
+            try:
+                return super().add_all(now, time, page, operations)
+            finally:
+                self.record.is_held = False
+                self.record.sync()
 
 
 # what a judged host says became of a drawop

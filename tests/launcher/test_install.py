@@ -56,6 +56,9 @@ def test_install(with_live: Checkout) -> None:
     assert printed(with_live, "moved/bin/wb-live", "a", WB_PROGRAM="") == "moved/share/wb/../../bin/wb a\n", "it runs by what was installed with it"
     assert printed(with_live, "moved/share/wb/wb", "--now") == "proved moved/share/wb/../../bin/wb\n"
     assert printed(with_live, "moved/share/wb/wb", "y") == "one y\n"
+    (moved / "share/doc/wb/BUILT").write_text("wb 0.1.0\nsources 12\nnot proved\n")
+    assert printed(with_live, "moved/share/wb/wb", "--now") == "unproved moved/share/wb/../../bin/wb\n", "it says what BUILT says"
+    assert printed(with_live, "moved/share/wb/wb", "--version").splitlines()[-1] == "not proved"
     (moved / "share/wb/old").touch()
     assert with_live.wb("--install", str(moved)).status == 0
     assert sorted(path.name for path in (moved / "share/wb").iterdir()) == ["live", "python", "wb", "wb-live", "wbhost.py"]

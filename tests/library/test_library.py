@@ -138,6 +138,45 @@ def test_examples_in_c(library: Path, compiler: str, tmp_path: Path, example: st
         assert run([tmp_path / made]) == PRINTED[example]
 
 
+# each is one misuse of a call, in a function that has a host and a room for 16 bytes
+MISUSES = [
+    "wb_open(0)",
+    "wb_line(&host, 0, 5, room, 16, &size)",
+    'wb_line(&host, "pages", 5, 0, 16, &size)',
+    'wb_line(&host, "pages", 5, room, 16, 0)',
+    'wb_line(&host, "pages", 9, room, 16, &size)',
+    'wb_line(&host, "pages", 5, room, 17, &size)',
+    "wb_came(&host, 1, room, 42)",
+    "wb_event(&host, 0, room, 16, &size)",
+    "wb_event(&host, &kind, room, 400, &size)",
+]
+
+
+def warned(words: list[str], call: str) -> str:
+    """What the compiler says of a call."""
+    given = '#include "wb.h"\nvoid f(void);\nvoid f(void) { wb_host host = WB_HOST_CLOSED; char room[16] = {0}; size_t size = 0; uint32_t kind = 0;'
+    made = f"{given} (void)size; (void)kind; (void)room; (void)host; {call}; }}\n"
+    ran = subprocess.run([*words, "-Wall", f"-I{TOP}/include", "-xc", "-c", "-o/dev/null", "-"], input=made, stdout=subprocess.PIPE, stderr=subprocess.STDOUT, text=True, check=False)
+    return ran.stdout
+
+
+def test_compilers_warn_of_misuses() -> None:
+    compiler = shutil.which("gcc")
+    if not compiler:
+        pytest.skip("there is no gcc here (apt-get install gcc)")
+    words = [compiler, "-std=c11", "-O1"]
+    assert [call for call in MISUSES if "warning" not in warned(words, call)] == []
+    assert warned(words, 'wb_line(&host, "pages", 5, room, 16, &size)') == ""
+
+
+def test_version_of_the_header() -> None:
+    header = (TOP / "include/wb.h").read_text()
+    version = re.findall(r"^## ([0-9.]+)$", (TOP / "CHANGELOG.md").read_text(), re.MULTILINE)[0]
+    first, second, third = map(int, version.split("."))
+    assert re.findall(r"^#define (WB_VERSION\w*) (.*)$", header, re.MULTILINE) == [
+        ("WB_VERSION", f'"{version}"'), ("WB_VERSION_NUMBER", str(10_000 * first + 100 * second + third))]
+
+
 def test_pkg_config(library: Path) -> None:
     if not shutil.which("pkg-config"):
         pytest.skip("there is no pkg-config here (apt-get install pkg-config)")
