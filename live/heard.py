@@ -54,6 +54,11 @@ class Heard:
         self.look()
         return origin.word in self.members
 
+    def knows(self, origin: Origin) -> bool:
+        """Whether somebody was heard from there lately."""
+        self.look()
+        return any(other.origin == origin.word for other in self.others.values())
+
     def within(self, patience: int) -> Dict[int, Other]:
         """Those that were heard so long ago at most."""
         self.look()

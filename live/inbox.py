@@ -17,6 +17,9 @@ MOST_WAITING = 2_048
 PACE = 2_000
 PACE_BYTES = 1 << 20
 
+# seconds of the pace that may be saved up; those from where no member has spoken have a half of it
+SAVED = 0.05
+
 # how datagrams begin that are for drivers alone, and no host hears of: where one points, and that one is gone
 ASIDE = (b"WP", b"WG")
 
@@ -31,10 +34,16 @@ class Arrival:
     is_second: bool = False
 
 
+# by the moment when they are due
+Queue = List[Tuple[float, int, Arrival]]
+
+
 class Inbox:
     def __init__(self) -> None:
         self.changed = threading.Condition()
-        self.arrivals: List[Tuple[float, int, Arrival]] = []
+        self.knows: Callable[[Origin], bool] = lambda origin: True  # whether a member speaks from there
+        self.arrivals: Queue = []
+        self.strange: Queue = []  # from elsewhere
         self.calls: Deque[Callable[[], None]] = deque()
         self.aside: Callable[[bytes, Origin], None] = lambda data, origin: None  # is given what is for drivers alone
         self.count = 0
@@ -42,7 +51,7 @@ class Inbox:
         self.foreign = 0  # what did not open by the session's key
         self.trouble = ""  # what is the matter with the network
         self.back: Callable[[], None] = lambda: None  # is called on the member's thread once the network carries again
-        self.budget = 0.0
+        self.budget = self.for_strange = 0.0
         self.taken_at = time.monotonic()
 
     # ---- from a carrier
@@ -69,9 +78,10 @@ class Inbox:
             return
         with self.changed:
             self.count += 1
-            heapq.heappush(self.arrivals, (time.monotonic() + delay, self.count, arrival))
-            if len(self.arrivals) > MOST_WAITING:
-                heapq.heappop(self.arrivals)
+            queue = self.arrivals if self.knows(arrival.origin) else self.strange
+            heapq.heappush(queue, (time.monotonic() + delay, self.count, arrival))
+            if len(queue) > MOST_WAITING:
+                heapq.heappop(queue)
                 self.dropped += 1
             self.changed.notify()
 
@@ -98,18 +108,21 @@ class Inbox:
                 self.changed.wait(min(end, self.next_due(now)) - now)
 
     def take_due(self, now: float) -> List[Arrival]:
-        """The datagrams whose delay is over, as many as the pace allows."""
-        self.budget = min(0.05, self.budget + now - self.taken_at)
-        self.taken_at = now
+        """The datagrams whose delay is over, as many as the pace allows, those of members first."""
+        passed, self.taken_at = now - self.taken_at, now
+        self.budget = min(SAVED, self.budget + passed)
+        self.for_strange = min(SAVED / 2, self.for_strange + passed / 2)
         taken: List[Arrival] = []
-        while self.arrivals and self.arrivals[0][0] <= now and self.budget > 0:
-            arrival = heapq.heappop(self.arrivals)[2]
-            self.budget -= max(1 / PACE, len(arrival.data) / PACE_BYTES)
-            taken.append(arrival)
+        for queue in (self.arrivals, self.strange):
+            while queue and queue[0][0] <= now and self.budget > 0 and (queue is self.arrivals or self.for_strange > 0):
+                arrival = heapq.heappop(queue)[2]
+                cost = max(1 / PACE, len(arrival.data) / PACE_BYTES)
+                self.budget -= cost
+                self.for_strange -= cost if queue is self.strange else 0
+                taken.append(arrival)
         return taken
 
     def next_due(self, now: float) -> float:
         """When to look again for datagrams."""
-        if not self.arrivals:
-            return now + 3600
-        return max(self.arrivals[0][0], now + max(0.0, 0.001 - self.budget))
+        waits = [(self.arrivals, 0.001 - self.budget), (self.strange, max(0.001 - self.budget, 0.002 - 2 * self.for_strange))]
+        return min((max(queue[0][0], now + max(0.0, wait)) for queue, wait in waits if queue), default=now + 3600)

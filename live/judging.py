@@ -186,6 +186,10 @@ class Judging:
         """The constants of the timers go by how many are heard."""
         self.tuning = constants_for(len(self.present()), self.tuning, self.member.options.many())
 
+    def is_known(self, origin: Origin) -> bool:
+        """Whether a member spoke from there, as it was told last; on any thread."""
+        return origin.word in self.heard.members
+
     def leave(self, origin: Origin) -> None:
         """The network says that who spoke from there is gone."""
         self.member.tell("gone %d %s" % (self.member.board.now(), origin.word))

@@ -6,7 +6,7 @@ import os
 import time
 from contextlib import ExitStack
 from functools import partial
-from typing import Any, Dict, List, Optional, Sequence, Union
+from typing import Any, Dict, List, Optional, Sequence, Set, Union
 
 from wbhost import Block, HostEnded
 
@@ -16,7 +16,7 @@ from .carriers.carrier import MOST_BYTES, Carrier, Origin
 from .carriers.mqtt import GONE
 from .drawn import Drawn
 from .events import Events
-from .inbox import Inbox
+from .inbox import MOST_WAITING, Inbox
 from .joining import Streams
 from .judging import Judging
 from .kept import Kept, path_beside
@@ -69,6 +69,8 @@ class Member:
         self.synced_at = time.monotonic()
         self.people = People(self)
         self.telling = Telling(self, events)
+        self.presence = Presence(me, events, lambda: self.inbox.call(lambda: None))
+        self.leaving: Set[Origin] = set()  # of whom the network says that they are gone
         self.judging: Any = None
         self.board = Board(program, options, record, self.words, self.hold)
         self.board.open(me)
@@ -97,7 +99,7 @@ class Member:
             self.close()
 
     def go_on(self) -> None:
-        self.presence = Presence(self.me, self.telling.events)
+        self.inbox.knows = lambda origin: bool(self.judging.is_known(origin))
         self.inbox.aside = self.hear_aside
         self.inbox.back = self.begin_again
         self.network.begin(self.inbox)
@@ -111,8 +113,15 @@ class Member:
         """A datagram that no host hears of, on the carrier's thread: where somebody points, or that he who spoke from there is gone."""
         if not data.startswith(GONE):
             self.presence.hear(data)
-        elif data[len(GONE):] == origin.text.encode():
-            self.inbox.call(partial(self.judging.leave, origin))
+        elif data[len(GONE):] == origin.text.encode() and origin not in self.leaving and len(self.leaving) < MOST_WAITING:
+            self.leaving.add(origin)
+            self.inbox.call(partial(self.leave, origin))
+
+    def leave(self, origin: Origin) -> None:
+        """Of whom was never heard nothing changes."""
+        self.leaving.discard(origin)
+        if self.judging.heard.knows(origin):
+            self.judging.leave(origin)
 
     def turn(self) -> None:
         calls, arrivals = self.inbox.take(self.seconds_to_wait())
@@ -123,6 +132,7 @@ class Member:
             self.judging.arrive(arrivals)
         self.pass_time()
         self.telling.tell()
+        self.presence.tell_due()
         if time.monotonic() - self.synced_at >= 1:
             self.board.sync()
             self.synced_at = time.monotonic()
@@ -131,7 +141,7 @@ class Member:
         """Until the first thing that is due; a second at most."""
         moments = [moment for moment, _ in self.judging.plan()]
         until = self.board.clock.seconds_until(min(moments)) if moments else 1.0
-        return min(1.0, max(0.001, until), self.telling.seconds_to_wait())
+        return min(1.0, max(0.001, until), self.telling.seconds_to_wait(), self.presence.seconds_to_wait())
 
     def pass_time(self) -> None:
         """Does what is due."""

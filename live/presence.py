@@ -9,7 +9,7 @@ from __future__ import annotations
 import struct
 import threading
 import time
-from typing import Any, Dict, List, NamedTuple, Optional, Tuple
+from typing import Any, Callable, Dict, List, NamedTuple, Optional, Tuple
 
 from .events import Events
 from .views import Page, page_text
@@ -30,6 +30,9 @@ MOST_LINES = 40
 MOST_MEMBERS = 64
 STAYS = 4.0
 MOST_A_SECOND = 25
+
+# seconds between two tellings: what others point at meanwhile is told at once
+TELL_PAUSE = 0.1
 
 
 class Pointed(NamedTuple):
@@ -65,9 +68,12 @@ def read(data: bytes) -> Optional[Pointed]:
 class Presence:
     """The others that point somewhere, as they were heard last."""
 
-    def __init__(self, me: int, events: Events) -> None:
+    def __init__(self, me: int, events: Events, wake: Callable[[], None] = lambda: None) -> None:
         self.me = me
         self.events = events
+        self.wake = wake  # is called once something is to be told
+        self.is_changed = False
+        self.next_at = 0.0
         self.changed = threading.Lock()
         self.others: Dict[int, Tuple[float, Pointed]] = {}
         self.second, self.heeded = 0, {}  # type: Tuple[int, Dict[int, int]]
@@ -81,7 +87,18 @@ class Presence:
             self.others.pop(point.member, None)
             if point.cell is not None or point.begun:
                 self.others[point.member] = time.monotonic(), point
-            self.tell()
+            is_first, self.is_changed = not self.is_changed, True
+        if is_first:
+            self.wake()
+
+    def seconds_to_wait(self) -> float:
+        return max(0.0, self.next_at - time.monotonic()) if self.is_changed else 3600.0
+
+    def tell_due(self) -> None:
+        """Tells what has changed, where the last time is long enough ago."""
+        with self.changed:
+            if self.is_changed and time.monotonic() >= self.next_at:
+                self.tell()
 
     def renumber(self, me: int) -> None:
         """We have another number: who has the old one is another member, and who points under the new one is none."""
@@ -93,6 +110,7 @@ class Presence:
     def tell(self) -> None:
         """Tells who points where."""
         self.forget()
+        self.is_changed, self.next_at = False, time.monotonic() + TELL_PAUSE
         told = [{"member": other.member, "page": page_text(other.page), "cell": other.cell, "begun": other.begun} for _, other in self.others.values()]
         self.events.tell("presence", {"others": told})
 

@@ -107,5 +107,8 @@ class Playing:
         """Nobody is there."""
         return {}
 
+    def is_known(self, origin: Origin) -> bool:
+        return True
+
     def end(self) -> None:
         """There is nothing to end."""

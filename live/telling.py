@@ -256,6 +256,7 @@ class Telling:
         counts = dict(member.wire.counts, dropped=member.inbox.dropped, foreign=member.inbox.foreign, starts=1 + len(member.board.ends))
         self.events.tell("health", {
             "page": page_text(page), "phrase": self.phrase(missing), "missing": missing, "warnings": self.warnings(), "counts": counts,
+            "taken": member.drawn.total, "cells": member.board.cells,
         })
 
     def warnings(self) -> List[str]:

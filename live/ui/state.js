@@ -4,8 +4,8 @@ import { write } from './keyed.js';
 
 /** @typedef {import('./types.js').Health} Health */
 
-/** Drawops of a full board; the part of it from which on the page says so; and the part from which on names, the chat and deletes alone have room. */
-const ALL = 65_535, CLOSE = 0.8, FULL = 15 / 16;
+/** The part of a board from which on the page says how full it is; from which on names, the chat and deletes alone have room; and deletes alone. */
+const CLOSE = 0.8, FULL = 15 / 16, WHOLE = 31 / 32;
 
 /** @param {number} many */
 const drawingsOf = (many) => (many === 1 ? '1 drawing' : `${many} drawings`);
@@ -18,22 +18,14 @@ export function linked(link, unsent) {
   return unsent ? `Offline: ${drawingsOf(unsent)} ${unsent === 1 ? 'waits' : 'wait'} here` : 'Offline: what you draw waits here';
 }
 
-/** What the member says of itself, in words for everyone.
+/** What the member says of itself, in words for everyone. Of warnings it reads nothing: others may have a say in their words.
  * @type {(health: Health, isReady: boolean) => { kind: string, text: string }} */
-export function plainly({ phrase, missing, warnings }, isReady) {
-  const all = warnings.join('\n');
-  if (/board is full/.test(all)) return { kind: 'lost', text: 'The board is full' };
+export function plainly({ phrase, missing, taken, cells }, isReady) {
+  if (taken >= cells * WHOLE) return { kind: 'lost', text: 'The board is full' };
   if (!isReady) return { kind: 'missing', text: 'Looking who is here' };
   if (missing) return { kind: 'missing', text: `Catching up: ${drawingsOf(missing)}` };
-  if (/board becomes full/.test(all)) return { kind: 'warns', text: 'The board is almost full' };
+  if (taken >= cells * CLOSE) return { kind: 'warns', text: 'The board is almost full' };
   return /^(whole|caught up)/.test(phrase) ? { kind: '', text: 'Everything is here' } : { kind: 'missing', text: phrase };
-}
-
-/** Which part of the board is taken: as warnings tell it, else by the pages.
- * @type {(warnings: string[], pages: { drawn: number }[], cells?: number) => number} */
-export function fullness(warnings, pages, cells = ALL) {
-  const [, taken, all] = /(\d+) of (\d+) cells/.exec(warnings.join('\n')) ?? [];
-  return taken ? Number(taken) / Number(all) : pages.reduce((sum, { drawn }) => sum + drawn, 0) / cells;
 }
 
 export class State {
@@ -56,7 +48,7 @@ export class State {
   take(health) {
     const { session } = this.board;
     this.health = health;
-    this.full = fullness(health.warnings, session.pages, session.hello.cells);
+    this.full = health.taken / health.cells;
     this.show();
     this.showNext();
   }

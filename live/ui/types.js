@@ -27,7 +27,7 @@
 /** Another member: the delay to it in milliseconds, and how many seconds ago it was heard.
  * @typedef {{ member: number, delay?: number | null, heard?: number | null, page?: string | null }} Other */
 /** @typedef {{ members: Other[] }} Members */
-/** @typedef {{ phrase: string, missing: number, warnings: string[], counts: Record<string, number> }} Health */
+/** @typedef {{ phrase: string, missing: number, taken: number, cells: number, warnings: string[], counts: Record<string, number> }} Health */
 /** A datagram that went by. `held` says whether the drawop that a request names was held when it came.
  * @typedef {{ id: number, at: number, way: 'in' | 'out', kind: string, words: string, member: number | null, name: string | null,
  *   answers: number | null, lost: boolean, twice: boolean, refused: string | null, by: number | null, held?: boolean }} Entry */

@@ -445,7 +445,7 @@ async function testTwins(program) {
   await Promise.all(twins.map(({ running }) => running));
   const alone = await memberOf(program, network, 11, new Record(null, 'here', 11));
   for (const bytes of heard) alone.take(bytes, { place: 'wb/eve', owner: null });
-  await comes(() => alone.inbox.waiting.length === 0);
+  await comes(() => alone.inbox.waiting.length + alone.inbox.strange.length === 0);
   check('what they said does not stop who comes later', [alone.judging.hasTwin, (await alone.people.draw(PAGE, 'line 0 0 4 0 x')).seq], [false, 1]);
   await alone.end();
 }

@@ -178,6 +178,20 @@ function takeAll(clock) {
   for (let i = 0; i < 20; i += 1) inbox.take(new Uint8Array(10_000), NOWHERE);
   const large = [taken(), clock.at += 10, taken()];
   check('of large ones as many as a megabyte a second has', [large[0], large[2]], [6, 1]);
+  [inbox.waiting, inbox.knows] = [[], (origin) => origin === NOWHERE];
+  clock.at += 1_000;
+  let late = 0, strange = 0;
+  for (let tick = 0; tick < 1_000; tick += 1) {
+    clock.at += 1;
+    for (let i = 0; i < 5; i += 1) inbox.take(new Uint8Array(8), { ...NOWHERE });
+    inbox.take(new Uint8Array(9), NOWHERE);
+    let ours = 0;
+    for (let arrival = inbox.next(); arrival; arrival = inbox.next()) arrival.origin === NOWHERE ? ours += 1 : strange += 1;
+    late += Number(ours !== 1);
+  }
+  check('beside a flood from elsewhere what members send comes at once', [late, Math.abs(strange - 1_000) < 80], [0, true]);
+  check('until the rest there is a pause', inbox.pause() > 0 && inbox.pause() < 5, true);
+  [inbox.strange, inbox.knows] = [[], () => true];
   inbox.worse = { lose: 1, delay: 0, twice: 0, mix: false };
   inbox.waiting = [];
   inbox.take(new Uint8Array(1), NOWHERE);
@@ -236,16 +250,18 @@ function testPresence() {
   check('what a page may not point at', [pointOf(1, '7/1', [0, 4_096], []), pointOf(1, '7/1', [0], []), pointOf(1, '7/1', null, ['\n']), pointOf(1, 'x', null, [])], [null, null, null, null]);
 }
 
-function testPresences() {
+async function testPresences() {
   const told = [], presence = new Presence(({ others }) => told.push(others.map(({ member }) => member)));
   const hear = (member, cell = [1, 1]) => presence.hear(writePoint({ member, page: '7/1', cell, begun: [] }), 1);
   [2, 1, 3, 2].forEach((member) => hear(member));
   hear(3, null);
-  check('who points, but for ourselves', told, [[2], [2, 3], [3, 2], [2]]);
+  hear(2);
+  await new Promise((done) => setTimeout(done, 150));
+  check('who points, but for ourselves; at most ten times a second, all at once', told, [[2], [2]]);
   presence.hear(writePoint({ member: 3, page: '7/2', cell: null, begun: ['view 0 0 9 9'] }), 1);
   check('who points nowhere and tells what is in view', presence.others.get(3)?.point.page, '7/2');
   for (let i = 0; i < 100; i += 1) hear(2);
-  check('not too many of one are heeded in a second', told.length < 60, true);
+  check('not too many of one are heeded in a second', presence.heeded.get(2) > 25 && told.length < 6, true);
   for (let member = 10; member < 200; member += 1) hear(member);
   check('nor of too many members', presence.others.size <= 64, true);
 }

@@ -11,7 +11,7 @@ import pytest
 from wbhost import find_program
 
 from live import presence as presences
-from live.presence import MOST_A_SECOND, MOST_BEGUN, MOST_MEMBERS, STAYS, Pointed, Presence, point_in, read, write
+from live.presence import MOST_A_SECOND, MOST_BEGUN, MOST_MEMBERS, STAYS, TELL_PAUSE, Pointed, Presence, point_in, read, write
 from live.words import Words
 
 from ..facts import Facts
@@ -31,6 +31,32 @@ class LastTold:
         self.others = state["others"]
 
 
+class Eager(Presence):
+    """It tells at once what it hears."""
+
+    def hear(self, data: bytes, address: Any = None) -> None:
+        self.next_at = 0.0
+        super().hear(data, address)
+        self.tell_due()
+
+
+def test_pace(facts: Facts, monkeypatch: pytest.MonkeyPatch) -> None:
+    """Ten times a second at most, all at once, whoever points."""
+    clock, told, woken = SimpleNamespace(at=100.0), [], []  # type: Any, List[List[int]], List[float]
+    monkeypatch.setattr(presences, "time", SimpleNamespace(monotonic=lambda: clock.at))
+    events: Any = SimpleNamespace(tell=lambda name, state: told.append([other["member"] for other in state["others"]]))
+    presence = Presence(1, events, lambda: woken.append(clock.at))
+    for tick in range(1_000):
+        presence.hear(write(POINT._replace(member=100 + tick % 20)))
+        presence.tell_due()
+        clock.at += 0.001
+    facts.holds("a thousand in a second are told ten times", len(told) <= 11 and len(woken) <= 11, (len(told), len(woken)))
+    facts("with all that came meanwhile", sorted(told[-1]), list(range(100, 120)))
+    clock.at += TELL_PAUSE
+    presence.tell_due()
+    facts("and the last ones soon", (presence.seconds_to_wait(), presence.is_changed), (3_600.0, False))
+
+
 def test_bytes(facts: Facts) -> None:
     data = write(POINT)
     facts("the bytes of a point", data[:24].hex(), "575001000000000700000001000000020003" + "0004" + b"line".hex())
@@ -47,7 +73,7 @@ def test_bytes(facts: Facts) -> None:
 
 def test_heeding(facts: Facts) -> None:
     told = LastTold()
-    presence = Presence(1, told)  # type: ignore[arg-type]
+    presence = Eager(1, told)  # type: ignore[arg-type]
     presence.hear(write(POINT))
     facts("another is told", [other["member"] for other in told.others], [7])
     presence.hear(write(POINT._replace(member=1)))
@@ -62,7 +88,7 @@ def test_heeding(facts: Facts) -> None:
     for member in range(1_000):
         presence.hear(write(POINT._replace(member=100 + member)))
     facts.holds("members have a bound", len(told.others) <= 64, told.others)
-    again = Presence(1, told)  # type: ignore[arg-type]
+    again = Eager(1, told)  # type: ignore[arg-type]
     again.hear(write(POINT._replace(member=9)))
     again.renumber(9)
     facts("who points under our new number is none", told.others, [])
@@ -75,7 +101,7 @@ def test_times(facts: Facts, monkeypatch: pytest.MonkeyPatch) -> None:
     """By a clock of the test: how many datagrams of a second are heeded, how long a point stays, and of how many members."""
     clock, told = SimpleNamespace(at=100.0), LastTold()
     monkeypatch.setattr(presences, "time", SimpleNamespace(monotonic=lambda: clock.at))
-    presence = Presence(1, told)  # type: ignore[arg-type]
+    presence = Eager(1, told)  # type: ignore[arg-type]
     for x in range(MOST_A_SECOND + 5):
         presence.hear(write(POINT._replace(cell=(x, 0))))
     facts("so many of a second are heeded", told.others[0]["cell"], (MOST_A_SECOND - 1, 0))

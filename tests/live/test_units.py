@@ -18,11 +18,13 @@ import pytest
 
 from live.alarms import Alarms
 from live.carriers.carrier import Origin
+from live.carriers.mqtt import GONE
 from live.clock import Clock
 from live.drawn import Drawn, Sheet
 from live import board as boards, connections, inbox as inboxes
 from live.inbox import MOST_WAITING, PACE, PACE_BYTES, Arrival, Inbox
 from live.letters import fitting, letter_rows, printable
+from live.member import Member
 from live.options import read_options
 from live.record import NoRoom, Record, RecordFault, read_played
 from live.state import folder_of, open_record
@@ -367,6 +369,43 @@ def test_pace(facts: Facts, monkeypatch: pytest.MonkeyPatch) -> None:
     facts("long ones by their bytes", len(inbox.take(0)[1]) in (5, 6), True)
 
 
+def test_pace_of_strangers(facts: Facts, monkeypatch: pytest.MonkeyPatch) -> None:
+    """Beside a flood from where no member speaks, what members send comes at once."""
+    clock = SimpleNamespace(at=100.0)
+    monkeypatch.setattr(inboxes, "time", SimpleNamespace(monotonic=lambda: clock.at))
+    inbox, strange = Inbox(), Origin("127.0.0.1:9")
+    inbox.knows = lambda origin: origin == HOME
+    late, taken = 0, 0
+    for tick in range(1_000):
+        clock.at += 0.001
+        for _ in range(5):
+            inbox.arrive(b"garbage!", strange)
+        inbox.arrive(b"%d" % tick, HOME)
+        came = [arrival for arrival in inbox.take(0)[1]]
+        late += b"%d" % tick not in [arrival.data for arrival in came if arrival.origin == HOME]
+        taken += sum(arrival.origin == strange for arrival in came)
+    facts("nothing of a member is late", late, 0)
+    facts.holds("a stranger has half of the pace", PACE // 2 - 50 <= taken <= PACE // 2 + 80, taken)
+
+
+def test_gone(facts: Facts) -> None:
+    """That somebody is gone costs a host a line if he was heard before, and once until that is done."""
+    left: List[Origin] = []
+    judging = SimpleNamespace(leave=left.append, heard=SimpleNamespace(knows=lambda origin: origin == HOME))
+    member: Any = SimpleNamespace(inbox=Inbox(), leaving=set(), judging=judging)
+    member.leave = partial(Member.leave, member)
+    for origin in (HOME, Origin("127.0.0.1:9")):
+        for _ in range(100):
+            Member.hear_aside(member, GONE + origin.text.encode(), origin)
+    calls = member.inbox.take(0)[0]
+    facts("of each one waits", len(calls), 2)
+    for call in calls:
+        call()
+    facts("who was not heard is nobody", (left, member.leaving), ([HOME], set()))
+    Member.hear_aside(member, GONE + b"another", HOME)
+    facts("nobody says it of another", len(member.inbox.take(0)[0]), 0)
+
+
 def test_connections(facts: Facts, monkeypatch: pytest.MonkeyPatch) -> None:
     """If there is no room, the oldest that has not asked yet goes; if all have, the oldest of an address that has most; a stream stays."""
     monkeypatch.setattr(connections, "MOST_CONNECTIONS", 2)
@@ -464,7 +503,7 @@ def test_options(facts: Facts) -> None:
 def test_security(facts: Facts) -> None:
     """Each test that docs/SECURITY.md names exists."""
     named = sorted(set(re.findall(r"`([a-z_]+)\.((?:test|check)\w+)`", (TOP / "docs" / "SECURITY.md").read_text())))
-    files = [*(TOP / "tests").glob("**/*.py"), *(TOP / "tests" / "browser").glob("*.mjs")]
+    files = [*(TOP / "tests").glob("**/*.py"), *(TOP / "tests").glob("*/*.mjs")]
     texts = {part: [file.read_text() for file in files if file.name.split(".")[0] == part] for part, _ in named}
     facts.holds("tests are named", len(named) > 60, named)
     facts("no test is named that is not there", [name for name in named if not any(re.search(r"(def|function) %s\(" % name[1], text) for text in texts[name[0]])], [])

@@ -19,7 +19,7 @@ import { readBeside, viewLine } from '../../live/ui/points.js';
 import { gripAt, gripsOf, stretchOf, stretched } from '../../live/ui/resizing.js';
 import { Session } from '../../live/ui/session.js';
 import { arrow, filled, plainOf, simplify, stroke, writing } from '../../live/ui/shapes.js';
-import { fullness, linked, nameOfNext, plainly } from '../../live/ui/state.js';
+import { linked, nameOfNext, plainly } from '../../live/ui/state.js';
 import { inside } from '../../live/ui/tools.js';
 import { check } from '../check.mjs';
 
@@ -205,14 +205,14 @@ function testErased() {
 function testState() {
   check('the connection', [['open', 3], ['lost', 0], ['lost', 1], ['lost', 12], ['gone', 2]].map(([link, many]) => linked(link, many)),
     ['', 'Offline: what you draw waits here', 'Offline: 1 drawing waits here', 'Offline: 12 drawings wait here', 'This board has another address now']);
-  const health = (phrase, missing = 0, warnings = []) => plainly({ phrase, missing, warnings, counts: {} }, true);
+  const health = (phrase, missing = 0, taken = 0, warnings = []) => plainly({ phrase, missing, taken, cells: 320, warnings, counts: {} }, true);
   check('in plain words', [health('whole'), health('caught up 3 s ago'), health('2 missing', 2), health('1 missing', 1)].map(({ text }) => text),
     ['Everything is here', 'Everything is here', 'Catching up: 2 drawings', 'Catching up: 1 drawing']);
-  check('a full board', [health('whole', 0, ['the board becomes full: 8 of 10 cells are taken']), health('1 missing', 1, ['the board is full: 9 of 10 cells; deletes alone'])].map(({ text }) => text),
-    ['The board is almost full', 'The board is full']);
-  check('before it may draw', plainly({ phrase: 'whole', missing: 0, warnings: [], counts: {} }, false).text, 'Looking who is here');
+  check('a full board', [health('whole', 0, 255), health('whole', 0, 256), health('1 missing', 1, 309), health('1 missing', 1, 310)].map(({ text }) => text),
+    ['Everything is here', 'The board is almost full', 'Catching up: 1 drawing', 'The board is full']);
+  check('by no words of a warning', health('whole', 0, 9, ['names: the board is full', 'the board becomes full: 8 of 10 cells']).text, 'Everything is here');
+  check('before it may draw', plainly({ phrase: 'whole', missing: 0, taken: 0, cells: 1, warnings: [], counts: {} }, false).text, 'Looking who is here');
   check('what else is told is told', health('the broker is away'), { kind: 'missing', text: 'the broker is away' });
-  check('how full', [fullness(['the board becomes full: 8 of 10 cells are taken'], []), fullness([], [{ drawn: 30 }, { drawn: 10 }], 80), fullness([], [{ drawn: 65_535 }])], [0.8, 0.5, 1]);
   check('the next board', nameOfNext(new Date(Date.UTC(2026, 4, 3)), () => 0.5), 'board-2026-05-03-5500');
 }
 

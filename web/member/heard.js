@@ -48,6 +48,13 @@ export class Heard {
     return this.members.has(wordOf(origin));
   }
 
+  /** Whether somebody was heard from there lately.
+   * @param {import('./origins.js').Origin} origin */
+  async knows(origin) {
+    await this.look();
+    return [...this.others.values()].some((other) => other.origin === wordOf(origin));
+  }
+
   /** Those that were heard so long ago at most.
    * @param {number} patience @param {number} now */
   within(patience, now) {

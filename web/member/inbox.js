@@ -1,6 +1,7 @@
 /** What came in and waits: at a bounded pace, and made worse on purpose where that was asked for. */
 
-/** The pace: how many datagrams a second, and how many bytes; what waits; and seconds that may be saved up. */
+/** The pace: how many datagrams a second, and how many bytes; what waits; and seconds that may be saved up. Those from where no member has spoken
+ * have a half of it. */
 const PACE = 2_000, PACE_BYTES = 1 << 20, MOST_WAITING = 2_048, SAVED = 0.05;
 
 /** @typedef {import('./origins.js').Origin} Origin */
@@ -17,8 +18,14 @@ export class Inbox {
     /** In the order in which they are due.
      * @type {Arrival[]} */
     this.waiting = [];
+    /** From elsewhere.
+     * @type {Arrival[]} */
+    this.strange = [];
+    /** Whether a member speaks from there.
+     * @type {(origin: Origin) => boolean} */
+    this.knows = () => true;
     this.dropped = 0;
-    this.budget = SAVED;
+    [this.budget, this.forStrange] = [SAVED, SAVED / 2];
     this.takenAt = performance.now();
   }
 
@@ -41,30 +48,35 @@ export class Inbox {
 
   /** @param {Arrival} arrival */
   put(arrival) {
-    let at = this.waiting.length;
-    while (at > 0 && this.waiting[at - 1].due > arrival.due) at -= 1;
-    this.waiting.splice(at, 0, arrival);
-    if (this.waiting.length > MOST_WAITING) {
-      this.waiting.shift();
+    const queue = this.knows(arrival.origin) ? this.waiting : this.strange;
+    let at = queue.length;
+    while (at > 0 && queue[at - 1].due > arrival.due) at -= 1;
+    queue.splice(at, 0, arrival);
+    if (queue.length > MOST_WAITING) {
+      queue.shift();
       this.dropped += 1;
     }
   }
 
-  /** The next datagram whose delay is over, where the pace allows one.
+  /** The next datagram whose delay is over, where the pace allows one, of members first.
    * @returns {Arrival | null} */
   next() {
-    const now = performance.now();
-    this.budget = Math.min(SAVED, this.budget + (now - this.takenAt) / 1000);
+    const now = performance.now(), passed = (now - this.takenAt) / 1000;
+    this.budget = Math.min(SAVED, this.budget + passed);
+    this.forStrange = Math.min(SAVED / 2, this.forStrange + passed / 2);
     this.takenAt = now;
-    if (!this.waiting.length || this.waiting[0].due > now || this.budget <= 0) return null;
-    const [arrival] = this.waiting.splice(0, 1);
-    this.budget -= Math.max(1 / PACE, arrival.bytes.length / PACE_BYTES);
+    const queue = [this.waiting, ...this.forStrange > 0 ? [this.strange] : []].find(([first]) => first && first.due <= now);
+    if (!queue || this.budget <= 0) return null;
+    const [arrival] = queue.splice(0, 1), cost = Math.max(1 / PACE, arrival.bytes.length / PACE_BYTES);
+    this.budget -= cost;
+    if (queue === this.strange) this.forStrange -= cost;
     return arrival;
   }
 
   /** Milliseconds until there may be one. */
   pause() {
-    if (!this.waiting.length) return Infinity;
-    return Math.max(this.waiting[0].due - performance.now(), this.budget > 0 ? 0 : 1 - this.budget * 1000);
+    const until = (/** @type {Arrival[]} */ [first], /** @type {number} */ budget) => (
+      first ? Math.max(first.due - performance.now(), budget > 0 ? 0 : 1 - budget * 1000) : Infinity);
+    return Math.min(until(this.waiting, this.budget), until(this.strange, Math.min(this.budget, 2 * this.forStrange)));
   }
 }

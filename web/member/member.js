@@ -6,6 +6,7 @@ import { readDatagram } from './datagram.js';
 import { Drawn } from './drawn.js';
 import { HostEnded } from './host.js';
 import { Judging } from './judging.js';
+import { wordOf } from './origins.js';
 import { People, Refused } from './people.js';
 import { Presence, isAside, readGone } from './presence.js';
 import { Telling } from './telling.js';
@@ -62,6 +63,10 @@ export class Member {
     this.judging = /** @type {Judging} */ (/** @type {unknown} */ (null));
     this.wake = () => { this.isAwake = true; };
     inbox.wake = () => this.wake();
+    inbox.knows = (origin) => Boolean(this.judging?.heard.isMember(origin));
+    /** Of whom the network says that they are gone.
+     * @type {Set<string>} */
+    this.leaving = new Set();
   }
 
   /** Starts the host. */
@@ -138,9 +143,19 @@ export class Member {
     else if (gone === null) this.presence.hear(bytes, this.me);
     else {
       const left = this.transport.goneBy(gone, origin);
-      // a host that breaks off knows nobody afterwards
-      if (left) this.people.call(() => this.judging.leave(left)).catch(() => {});
+      if (left && !this.leaving.has(wordOf(left))) {
+        this.leaving.add(wordOf(left));
+        // a host that breaks off knows nobody afterwards
+        this.people.call(() => this.leave(left)).catch(() => {});
+      }
     }
+  }
+
+  /** Of whom was never heard nothing changes.
+   * @param {import('./origins.js').Origin} origin */
+  async leave(origin) {
+    this.leaving.delete(wordOf(origin));
+    if (await this.judging.heard.knows(origin)) await this.judging.leave(origin);
   }
 
   // ---- the host

@@ -18,6 +18,9 @@ const MOST_BEGUN = 700, MOST_LINES = 40;
 /** Members that are remembered, for how many milliseconds, and their datagrams that are heeded in a second. */
 const MOST_MEMBERS = 64, STAYS = 4_000, MOST_A_SECOND = 25;
 
+/** Milliseconds between two tellings: what others point at meanwhile is told at once. */
+const TELL_PAUSE = 100;
+
 const GONE = 'WG', encoder = new TextEncoder(), decoder = new TextDecoder();
 
 /** @param {Uint8Array} bytes */
@@ -78,6 +81,8 @@ export class Presence {
     this.tell = tell;
     /** @type {Map<number, { at: number, point: Pointed }>} */
     this.others = new Map();
+    this.nextAt = 0;
+    this.isWaiting = false;
     this.second = 0;
     /** Datagrams of this second, by member.
      * @type {Map<number, number>} */
@@ -91,6 +96,16 @@ export class Presence {
     if (!point || point.member === me || !this.heeds(point.member)) return;
     this.others.delete(point.member);
     if (point.cell || point.begun.length) this.others.set(point.member, { at: performance.now(), point });
+    if (this.isWaiting) return;
+    this.isWaiting = true;
+    const wait = this.nextAt - performance.now();
+    if (wait > 0) setTimeout(() => this.tellAll(), wait);
+    else this.tellAll();
+  }
+
+  tellAll() {
+    this.isWaiting = false;
+    this.nextAt = performance.now() + TELL_PAUSE;
     this.forget();
     this.tell({ others: [...this.others.values()].map((other) => other.point) });
   }

@@ -201,7 +201,7 @@ export class Telling {
     else if (this.missing.delete(page)) this.caughtUp.set(page, board.now());
     const counts = { ...wire.counts, dropped: inbox.dropped, foreign: transport.foreign ?? 0, starts: 1 + board.ends.length };
     const phrase = transport.state || this.phrase(missing);
-    this.post('health', { page, phrase, missing, warnings: this.warnings(), counts, carried: !transport.state });
+    this.post('health', { page, phrase, missing, taken: drawn.total, cells: board.cells, warnings: this.warnings(), counts, carried: !transport.state });
   }
 
   /** What lasts comes after what goes. */
