@@ -187,7 +187,7 @@ class Judging:
         self.tuning = constants_for(len(self.present()), self.tuning, self.member.options.many())
 
     def is_known(self, origin: Origin) -> bool:
-        """Whether a member spoke from there, as it was told last; on any thread."""
+        """Whether a member spoke from there, by what the host said last; on any thread."""
         return origin.word in self.heard.members
 
     def leave(self, origin: Origin) -> None:

@@ -31,7 +31,7 @@ MOST_MEMBERS = 64
 STAYS = 4.0
 MOST_A_SECOND = 25
 
-# seconds between two tellings: what others point at meanwhile is told at once
+# seconds between two tellings: it tells all at once what others point at meanwhile
 TELL_PAUSE = 0.1
 
 
@@ -71,7 +71,7 @@ class Presence:
     def __init__(self, me: int, events: Events, wake: Callable[[], None] = lambda: None) -> None:
         self.me = me
         self.events = events
-        self.wake = wake  # is called once something is to be told
+        self.wake = wake  # called once there is something to tell
         self.is_changed = False
         self.next_at = 0.0
         self.changed = threading.Lock()

@@ -18,7 +18,7 @@ const MOST_BEGUN = 700, MOST_LINES = 40;
 /** Members that are remembered, for how many milliseconds, and their datagrams that are heeded in a second. */
 const MOST_MEMBERS = 64, STAYS = 4_000, MOST_A_SECOND = 25;
 
-/** Milliseconds between two tellings: what others point at meanwhile is told at once. */
+/** Milliseconds between two tellings: it tells all at once what others point at meanwhile. */
 const TELL_PAUSE = 100;
 
 const GONE = 'WG', encoder = new TextEncoder(), decoder = new TextDecoder();
