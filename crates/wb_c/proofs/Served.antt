@@ -5,7 +5,6 @@ use Rattle.std.proofs.lemmas.Bool.{le-ltb, lt-ltb}
 use Rattle.std.specs.Prelude.{is_some, nat_lt}
 use Rattle.wb_names.specs.declared.moment.TheConstants.{MOMENT_LIMIT}
 use Rattle.wb_keeping.specs.Performing.{KeptValue}
-
 use Rattle.wb_codec.specs.declared.datagram.Datagram.{Datagram}
 use Rattle.wb_codec.specs.declared.fault.ReadFault.{ReadFault}
 use Rattle.wb_judge.specs.declared.origin.Origin.{Origin}

@@ -1,4 +1,4 @@
--- A judge has the number of its kept member, whatever lines a host is told.
+-- A judge has the number of its kept member, whatever lines its host gets.
 use Rattle.std.proofs.Common.{◌≡◌, ℕ, List, [], ◌∷◌, Option, Some, None, Result, Ok, Err, refl, sym, subst, ◌∙◌}
 use Rattle.wb_recovery.specs.declared.tuning.Tuning.{Tuning}
 use Rattle.wb_judging.specs.Calling.{call_fault}

@@ -1,5 +1,5 @@
 //! A host once its board is open.
-ghost use Rattle.std.specs.Prelude.{◌≡◌, Option, Some, true, IfOk};
+ghost use Rattle.std.specs.Prelude.{◌≡◌, [], Option, Some, true, IfOk};
 ghost use Rattle.wb_recovery.specs.Timing.{are_constants};
 ghost use Rattle.wb_member.specs.Opened.{opened_with};
 ghost use Rattle.wb_dialog.specs.Doing.{Adds, IsHostAt, IsKindAt, LeadsFrom, LeadsOpen};
