@@ -217,12 +217,7 @@ impl Dialog {
 
     /// What a line does.
     #[tactic(auto, using(crate::proofs::EachKind::begins_not, crate::proofs::EachKind::begins, crate::proofs::EachKind::unread))]
-    fn act(
-        &mut self,
-        alloc: Global,
-        content: &[u8],
-        output: &mut Output,
-    ) -> Result<(), Unanswered>
+    fn act(&mut self, alloc: Global, content: &[u8], output: &mut Output) -> Result<(), Unanswered>
         ensures text { Adds output.old output.new (λ written.
             LeadsFrom self.old.host self.new.host written result
             (λ s. response_to self.old.tuning s content.now)) }

@@ -107,7 +107,10 @@ impl Host {
         match self {
             Host::Driven { member, board } => begin_to_judge(alloc, tuning, line, member, board),
             Host::Kept(kept) => (Host::Kept(kept), Err(Unanswered::Refused(Refusal::Kept))),
-            Host::Judged(member) => (Host::Judged(member), Err(Unanswered::Refused(Refusal::Kept))),
+            Host::Judged(member) => (
+                Host::Judged(member),
+                Err(Unanswered::Refused(Refusal::Kept)),
+            ),
         }
     }
 }
