@@ -7,6 +7,7 @@ use Rattle.wb_names.specs.declared.moment.TheConstants.{MOMENT_LIMIT}
 use Rattle.wb_keeping.specs.Performing.{KeptValue}
 use Rattle.wb_codec.specs.declared.datagram.Datagram.{Datagram}
 use Rattle.wb_codec.specs.declared.fault.ReadFault.{ReadFault}
+use Rattle.wb_judge.specs.Judge.{Judge}
 use Rattle.wb_judge.specs.declared.origin.Origin.{Origin}
 use Rattle.wb_judging.specs.declared.call.Call.{Call}
 use Rattle.wb_judging.specs.declared.call.Call.TheVariants.{CameFrom, Passed}
@@ -125,12 +126,17 @@ module _ (does : KeptValue → KeptValue → List Event → List Event → ℕ �
   pub at_not_own : (status : ℕ) (found : Option JudgedValue) → None ≡ found → Refuses 7 old new status → AtOwn does found old new status
   at_not_own status found is refuses = subst (λ (f : Option JudgedValue). AtOwn does f old new status) is refuses
 
+  own_back : {E : Type 0} (r : Result ℕ E) (m : JudgedValue) (after : KeptValue) → Some m ≡ judged_in old.dialog.host → new.dialog ≡ with_member (record { kept = after; judge = m.judge }) old.dialog → new.block ≡ old.block
+      → IfOk r (does m.kept after old.events.items new.events.items) → IfOk r (AtOwn does (judged_in old.dialog.host) old new)
+  own_back (Ok status) m after is dialog block did = at_own status (judged_in old.dialog.host) m after is dialog block did
+  own_back (Err e) m after is dialog block did = tt
+
   -- The self-managing member of a judged one did it, or an allocation failed, and in any case it was put back.
-  pub own_did : {E : Type 0} (r : Result ℕ E) (taken : DialogValue) (m : JudgedValue) (after : KeptValue) → Some m ≡ judged_in old.dialog.host → with_member m taken ≡ old.dialog → new.dialog ≡ with_member (record { kept = after; judge = m.judge }) taken
-      → new.block ≡ old.block → IfOk r (does m.kept after old.events.items new.events.items) → IfOk r (AtOwn does (judged_in old.dialog.host) old new)
-  own_did (Ok status) taken m after is was dialog block did =
-      at_own status (judged_in old.dialog.host) m after is (put_member_back old.dialog taken new.dialog m (record { kept = after; judge = m.judge }) was dialog) block did
-  own_did (Err e) taken m after is was dialog block did = tt
+  pub own_did : {E : Type 0} (r : Result ℕ E) (taken : DialogValue) (m : JudgedValue) (kept after : KeptValue) (judge : Judge) → kept ≡ m.kept → judge ≡ m.judge → Some m ≡ judged_in old.dialog.host → with_member m taken ≡ old.dialog
+      → new.dialog ≡ with_member (record { kept = after; judge = judge }) taken → new.block ≡ old.block → IfOk r (does kept after old.events.items new.events.items) → IfOk r (AtOwn does (judged_in old.dialog.host) old new)
+  own_did r taken m kept after judge its own is was dialog block did =
+      own_back r m after is (put_member_back old.dialog taken new.dialog m (record { kept = after; judge = m.judge }) was (dialog ∙ ap (λ (j : Judge). with_member (record { kept = after; judge = j }) taken) own)) block
+      (subst (λ (k : KeptValue). IfOk r (does k after old.events.items new.events.items)) its did)
 
   pub any_judged : {E : Type 0} (r : Result ℕ E) (judged : Bool) → judged ≡ is_some (judged_in old.dialog.host) → judged ≡ true → IfOk r (AtOwn does (judged_in old.dialog.host) old new) → IfOk r (AtAny (is_some (judged_in old.dialog.host)) does old new)
   any_judged r judged is so did = subst (λ (b : Bool). IfOk r (AtAny b does old new)) (sym so ∙ is) did

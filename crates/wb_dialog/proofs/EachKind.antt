@@ -1,6 +1,5 @@
 -- What a host of each kind did for a line, by what its member did.
 use Rattle.std.proofs.Common.{◌≡◌, ℕ, List, [], Option, Some, None, Result, Ok, Err, refl, sym, ap, subst, ◌∙◌}
-use Rattle.std.specs.Prelude.{IfOk}
 use Rattle.wb_recovery.specs.declared.tuning.Tuning.{Tuning}
 use Rattle.wb_judge.specs.Judge.{Judge}
 use Rattle.wb_judging.specs.Judged.{Judged}
@@ -18,17 +17,17 @@ use Rattle.wb_dialog.specs.declared.fault.Unanswered.{Unanswered}
 use Rattle.wb_dialog.specs.declared.fault.Unanswered.TheVariants as unanswered
 use Rattle.wb_dialog.specs.declared.judged_line.JudgeLine.{JudgeLine}
 use Rattle.wb_dialog.specs.declared.judged_line.JudgedLine.{JudgedLine}
-use Rattle.wb_dialog.specs.declared.judged_line.JudgedLine.TheVariants.{Call as Calls, Skip, Members, List as Lists, Lacks, Since, Paint, Words, Common}
+use Rattle.wb_dialog.specs.declared.judged_line.JudgedLine.TheVariants.{Common}
 use Rattle.wb_dialog.specs.declared.line.DriverLine.{DriverLine}
 use Rattle.wb_dialog.specs.declared.line.DriverLine.TheVariants.{Keep}
 use Rattle.wb_dialog.specs.declared.opened.Host.{Host as HostValue}
 use Rattle.wb_dialog.specs.declared.opened.Host.TheVariants as values
 use Rattle.wb_dialog.specs.Boards.{BoardValue}
-use Rattle.wb_dialog.specs.Doing.{DoesAct, DoesJudged, DoesKept, DoesOpen, DoesReply, IsHostAt, IsKindAt, Leads, LeadsFrom, LeadsOpen}
+use Rattle.wb_dialog.specs.Doing.{DoesAct, DoesJudged, DoesKept, DoesOpen, DoesReply, IsKindAt, Leads, LeadsFrom, LeadsOpen}
 use Rattle.wb_dialog.specs.Hosting.{Host, Driven, Kept, Reply, prints, denies, in_time, keep_reply, reply, taken_by}
 use Rattle.wb_dialog.specs.Judged.{Act, does, fails, act, begun}
 use Rattle.wb_dialog.specs.JudgedLines.{judge_line_of, judged_line_of}
-use Rattle.wb_dialog.specs.Kinds.{Kind, unjudged, judged, Response, answers, rejects, as_judged, as_kept, as_unjudged, common_response, due_of, judge_response, judged_response, line_response, response_by, response_to, said_reply}
+use Rattle.wb_dialog.specs.Kinds.{Kind, unjudged, judged, Response, as_judged, as_kept, as_unjudged, common_response, due_of, judge_response, judged_response, line_response, response_by, response_to, said_reply}
 use Rattle.wb_dialog.specs.Lines.{Parses, line_of, unanswered_by}
 use Rattle.wb_dialog.specs.Records.{Reads}
 use Rattle.wb_dialog.proofs.Fronts.{begins_empty}

@@ -215,7 +215,8 @@ impl Dialog {
         result
     }
 
-    /// What a line does.
+    /// What a line does. If an allocation fails, nothing is promised of what is left: the host is
+    /// given up.
     #[tactic(auto, using(crate::proofs::EachKind::begins_not, crate::proofs::EachKind::begins, crate::proofs::EachKind::unread))]
     fn act(&mut self, alloc: Global, content: &[u8], output: &mut Output) -> Result<(), Unanswered>
         ensures text { Adds output.old output.new (λ written.
@@ -231,8 +232,8 @@ impl Dialog {
     }
 
     /// Prints the block of a line, which stands without its end: what it prints, and `ok DUE`; or,
-    /// if the line is refused, `refused FAULT`, and nothing changes. If memory runs out, a front of
-    /// the block is printed, and the host is to be given up.
+    /// if the line is refused, `refused FAULT`, and nothing changes. If an allocation fails, nothing
+    /// is promised of what is left: the host is given up. A front of the block is printed then.
     pub fn answer(
         &mut self,
         alloc: Global,

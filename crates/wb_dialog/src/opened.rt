@@ -75,7 +75,8 @@ impl Host {
     }
 
     /// What a line does that does not begin to judge: it prints, or it is refused, and then the
-    /// host stays as it is.
+    /// host stays as it is. If an allocation fails, nothing is promised of what is left: the host
+    /// is given up.
     pub fn take(
         self,
         alloc: Global,
