@@ -65,11 +65,11 @@ enum {
     WB_TWIN = 17,         /* nothing is drawn at a judged host, since somebody else has our number */
     WB_FULL = 18,         /* nothing is drawn at a judged host, since the last cells are kept for deletes and restores */
     WB_NO_TIME = 19,      /* the time of day is not below 2^62 */
-    WB_NO_DATAGRAM = 100, /* and with the number of the fault, 1 to 9 (docs/FORMAT.md): the bytes are no datagram */
+    WB_NO_DATAGRAM = 100, /* and with the number of the fault, 1 to 9 (docs/SCRIPTS.md): the bytes are no datagram */
     WB_NO_OPERATION = 200 /* and with the number of the fault, 1 to 7: under its next number the operation is none of a drawop */
 };
 
-/* The kinds of events, and the bytes of each. Datagrams are as on the network (docs/FORMAT.md), and numbers have four bytes, big-endian. */
+/* The kinds of events, and the bytes of each. Datagrams are as on the network (docs/SCRIPTS.md), and numbers have four bytes, big-endian. */
 enum {
     WB_SENT = 1,     /* a datagram, which is to be sent to all others */
     WB_NEW = 2,      /* no bytes: the drawop that came or was drawn is new, and held now */

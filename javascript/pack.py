@@ -13,6 +13,7 @@ from typing import Dict
 
 HERE = Path(__file__).resolve().parent
 HOST = HERE.parent / "web" / "member" / "host.js"
+THIRD_PARTY = HERE.parent / "tools" / "installed" / "THIRD-PARTY"
 
 FILES = ("README.md", "host.d.ts", "node.d.ts", "node.js", "package.json", "wb.d.ts", "wb.js")
 MODULES = ("wb-any.wasm", "wb.wasm")
@@ -22,7 +23,7 @@ def contents(modules: Path) -> Dict[str, bytes]:
     """The files of the package, by their names."""
     found = {name: (HERE / name).read_bytes() for name in FILES}
     found.update({name: (modules / name).read_bytes() for name in MODULES})
-    return {**found, "host.js": HOST.read_bytes()}
+    return {**found, "host.js": HOST.read_bytes(), "THIRD-PARTY": THIRD_PARTY.read_bytes()}
 
 
 def write_archive(path: Path, files: Dict[str, bytes], top: str, mode: int = 0o644) -> None:

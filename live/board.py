@@ -5,7 +5,7 @@ from __future__ import annotations
 import contextlib
 import secrets
 import time
-from typing import Callable, Iterator, List, Optional, Sequence, Set, Tuple
+from typing import Any, Callable, Iterator, List, Optional, Sequence, Set, Tuple
 
 from wbhost import LINES, Block, Host, HostEnded
 
@@ -45,6 +45,10 @@ MOMENTS = ("judge ", "tick ", "came ", "add ", "wall ", "gone ")
 SLACK = SECOND
 
 
+def nothing(*_: Any) -> None:
+    """Nothing is to be done."""
+
+
 class BoardFault(Exception):
     """The host can't be started again."""
 
@@ -71,7 +75,10 @@ class Board:
         self.due: Optional[int] = None
         self.ends: List[float] = []
         self.unkept: List[str] = []  # lines that the record has no room for yet
+        self.unsynced: List[str] = []  # lines that it has, and maybe not on the disk
+        self.drawn: List[Drawop] = []  # what of these we drew: nothing of it is sent yet
         self.is_broken = False  # the record could not be written
+        self.sync_kept: Callable[[], None] = nothing  # puts what is kept elsewhere on the disk, for a record that does not last
         self.strange: Set[Name] = set()  # what of the drawops no member gave, by the lines of the record
 
     def open(self, me: int) -> None:
@@ -84,6 +91,7 @@ class Board:
         try:
             self.tell_held(given, waiting)
             self.record.add(comment("started"))
+            self.record.sync()
         except BaseException:
             self.close()
             raise
@@ -229,26 +237,38 @@ class Board:
         """Whether the host reckons with another time of day than this machine's."""
         return abs(self.wall + self.now() - self.wall_at - wall()) > SLACK
 
-    def draw(self, page: Page, time_of_day: int, operation: str) -> Tuple[Block, Optional[Drawop]]:
-        """Has the host draw, which gives a drawing its number and its time. NoRoom where the record can't have it: then a host starts that has
-        not drawn it, and its number is free, since nobody was told. What it repairs besides is sent too."""
+    def draw(self, page: Page, time_of_day: int, operation: str, keep: Listener = nothing) -> Tuple[Block, Optional[Drawop]]:
+        """Has the host draw, which gives a drawing its number and its time, has it kept elsewhere, and puts it into the record. NoRoom where either
+        can't have it: then a host starts that has not drawn it, and its number is free. Nothing of the block is sent before `settle`."""
         self.find_room()
         now = self.now()
         before, block = self.tell_all([self.line_of_time(now, time_of_day), "add %d %d/%d %s" % (now, *page, operation)])
         block = block._replace(lines=before.lines + block.lines)
         lines = said(block, "record")
+        drawop = next((Drawop(line[4:]) for line in lines if line.startswith("say ")), None)
         try:
+            if drawop:
+                drawop.digits = next(each for each in block.sent() if name_of(each) == drawop.name)
+                keep(drawop)
             self.write(lines)
         except NoRoom:
             self.begin_again()
             raise
-        words = next((line[4:] for line in lines if line.startswith("say ")), None)
-        if words is None:
-            return block, None
-        drawop = Drawop(words)
-        drawop.digits = next(each for each in block.sent() if name_of(each) == drawop.name)
-        self.listener(drawop)
+        self.drawn += [drawop] if drawop else []
         return block, drawop
+
+    def settle(self) -> None:
+        """Puts what was drawn on the disk, all by one sync; then it may be sent. NoRoom where the disk does not take it: then it is as if it was
+        never drawn, also to the host, and nobody was told of its numbers."""
+        drawn, self.drawn = self.drawn, []
+        try:
+            self.sync_kept()
+            self.flush()
+        except NoRoom:
+            self.begin_again()
+            raise
+        for drawop in drawn:
+            self.listener(drawop)
 
     def find_room(self) -> None:
         """NoRoom where the record can't be written, also for what came before."""
@@ -257,6 +277,8 @@ class Board:
             raise NoRoom("no room")
         if self.is_broken:
             self.write([comment("there is room again")])
+            if not self.drawn:
+                self.flush()
 
     def keep(self, lines: List[str]) -> None:
         """Puts lines into the record, and those before them for which there was no room."""
@@ -281,15 +303,24 @@ class Board:
         if lines:
             self.is_broken = True
             self.record.add(*lines)
+            self.unsynced += lines
             self.is_broken = False
 
-    def sync(self) -> None:
-        """Puts what is kept on the disk, and tries again what could not be kept."""
-        self.keep([])
+    def flush(self) -> None:
+        """Puts what is written on the disk. Where that takes nothing, what others gave is written again later, and what we drew is not."""
+        unsynced, self.unsynced = self.unsynced, []
         try:
             self.record.sync()
         except NoRoom:
             self.is_broken = True
+            self.unkept = [line for line in unsynced if not line.startswith("say ")] + self.unkept
+            raise
+
+    def sync(self) -> None:
+        """Puts what is kept on the disk, and tries again what could not be kept."""
+        self.keep([])
+        with contextlib.suppress(NoRoom):
+            self.flush()
 
     def renumber(self, me: int, path: Optional[str], held: List[Drawop]) -> None:
         """Goes on under another number, with a record of its own and with all that was held. NoRoom, RecordFault or OSError if there is no
@@ -297,7 +328,7 @@ class Board:
         head = [FIRST_LINE, "board %d %d 1 %d" % (me, self.cells, secrets.randbits(64))]
         lines = [*head, "tick %d" % self.moment, *(line_of(drawop, self.strange) for drawop in held)]
         before, self.record = self.record, write_record(path, lines)
-        self.unkept, self.ready_at = [], self.moment
+        self.unkept, self.unsynced, self.ready_at = [], [], self.moment
         if path == before.path:
             before.close()
         else:

@@ -51,6 +51,11 @@ class Connections:
         except OSError:
             pass
 
+    def rest(self, connection: socket.socket) -> None:
+        """A request was answered: its connection may have another one, and is idle until then."""
+        with self.lock:
+            self.idle[connection] = time.monotonic()
+
     def asked(self, connection: socket.socket) -> bool:
         """A whole request came. Whether its connection is still there."""
         with self.lock:

@@ -1,8 +1,9 @@
 """The drawops that the host holds, by page. What of them a page shows, the host says (showing.py)."""
 from __future__ import annotations
 
-from typing import Dict, Iterable, List, Optional
+from typing import Dict, Iterable, List, Optional, Set
 
+from .clock import SECOND
 from .views import Drawop, Name, Page
 
 
@@ -13,16 +14,48 @@ class Sheet:
         self.drawops: Dict[Name, Drawop] = {}
         self.tops: Dict[int, int] = {}  # the greatest number of each source
         self.counts: Dict[int, int] = {}  # how many of each source
+        self.begun = 0  # the least time of its drawops
+        self.last = 0  # the greatest time of what was drawn or restored
+        self.aimed: Dict[Name, List[Drawop]] = {}  # the deletes and restores of each drawing
 
     def add(self, drawop: Drawop) -> bool:
         """Whether it is new."""
         source, _, seq = drawop.name
         if drawop.name in self.drawops:
             return False
+        self.begun = min(self.begun, drawop.time) if self.drawops else drawop.time
         self.drawops[drawop.name] = drawop
+        if drawop.kind != "delete":
+            self.last = max(self.last, drawop.time)
+        if not drawop.is_drawing():
+            self.aimed.setdefault(drawop.aimed(), []).append(drawop)
         self.tops[source] = max(seq, self.tops.get(source, 0))
         self.counts[source] = 1 + self.counts.get(source, 0)
         return True
+
+    def eraser(self, name: Name) -> Optional[Drawop]:
+        """The delete that took a drawing away: the first after its last restore."""
+        found: Optional[Drawop] = None
+        for drawop in sorted(self.aimed.get(name, []), key=lambda each: each.key):
+            found = None if drawop.kind == "restore" else found or drawop
+        return found
+
+    def before(self, drawop: Drawop) -> Optional[Drawop]:
+        """What the source of a delete did just before it here, if that was within a second, and is not what it takes back."""
+        source, page, seq = drawop.name
+        found = self.drawops.get((source, page, seq - 1))
+        is_back = found is not None and found.kind == "restore" and found.aimed() == drawop.aimed()
+        return found if found and drawop.time - found.time <= SECOND and not is_back else None
+
+    def after(self, drawop: Drawop) -> Optional[Drawop]:
+        """What its source did next here."""
+        source, page, seq = drawop.name
+        return self.drawops.get((source, page, seq + 1))
+
+    def begun_by(self, strange: Set[Name]) -> float:
+        """The time of its first drawop that has none of these names; of a page that has no other, that of its first; and after all if it has none."""
+        times = [drawop.time for drawop in self.drawops.values() if drawop.name not in strange] if strange else []
+        return min(times, default=self.begun) if self.drawops else float("inf")
 
 
 # a page that has nothing: it is not remembered, however many are looked at

@@ -6,9 +6,12 @@ from __future__ import annotations
 import json
 import threading
 from collections import deque
-from typing import Any, Deque, Dict, List, Optional, Sequence, Tuple
+from typing import TYPE_CHECKING, Any, Deque, Dict, List, Optional, Sequence, Tuple
 
 from .views import Drawop
+
+if TYPE_CHECKING:
+    from .showing import Erased
 
 # a view that begins gets them in this order; the page comes after the first
 NAMES = ("hello", "pages", "members", "health")
@@ -34,7 +37,7 @@ def compact(value: Any) -> str:
 class Whole:
     """All of a page at some time. Its JSON is made when it is first asked for."""
 
-    def __init__(self, turn: int, version: int, head: Dict[str, Any], drawops: Sequence[Drawop], hidden: Sequence[Drawop]) -> None:
+    def __init__(self, turn: int, version: int, head: Dict[str, Any], drawops: Sequence[Drawop], hidden: Sequence[Erased]) -> None:
         self.turn = turn
         self.version = version
         self.head = head
@@ -46,8 +49,8 @@ class Whole:
     def text(self) -> str:
         with self.making:
             if self.made is None:
-                lists = [",".join([drawop.text() for drawop in each]) for each in (self.drawops, self.hidden)]
-                self.made = compact(self.head)[:-1] + ',"drawops":[%s],"hidden":[%s]}' % (lists[0], lists[1])
+                drawops, hidden = ",".join([drawop.text() for drawop in self.drawops]), ",".join([erased.text() for erased in self.hidden])
+                self.made = compact(self.head)[:-1] + ',"drawops":[%s],"hidden":[%s]}' % (drawops, hidden)
             return self.made
 
 
@@ -102,7 +105,7 @@ class Events:
 def change_text(change: Dict[str, Any]) -> str:
     """A change as JSON, in which each drawop's own is taken over."""
     added = ",".join("[%d,%s]" % (at, drawop.text()) for at, drawop in change["added"])
-    hidden = ",".join(drawop.text() for drawop in change["hidden"])
+    hidden = ",".join(erased.text() for erased in change["hidden"])
     rest = {name: value for name, value in change.items() if name not in ("added", "hidden")}
     return compact(rest)[:-1] + ',"added":[%s],"hidden":[%s]}' % (added, hidden)
 

@@ -46,7 +46,7 @@ def network_words(options: Options, name: str) -> List[str]:
         return ["--broker", options.broker.text + ("" if options.broker.scheme.startswith("ws") else "/" + name), *(["--ca", options.ca] if options.ca else [])]
     if options.lan:
         return ["--lan", "%s:%d" % (options.lan[0], FIRST_GROUP_PORT + place_of(name, GROUP_PLACES)), "--interface", options.interface]
-    return ["--ports", "%d" % (FIRST_PORT + PORTS * (1 + place_of(name, PORT_PLACES)))]
+    return [] if options.is_alone else ["--ports", "%d" % (FIRST_PORT + PORTS * (1 + place_of(name, PORT_PLACES)))]
 
 
 def seen_words(options: Options) -> List[str]:

@@ -49,10 +49,15 @@ class NoPlace(Exception):
 
 class Guest:
     """The member of a browser, by the cookie that it was given, and the address that it came from. Its record vanishes with it: the
-    member that keeps the board has all."""
+    member that keeps the board has all. A browser that was here before goes on under its number, with what it had drawn."""
 
-    def __init__(self, keeper: Member, hub: Hub, address: str) -> None:
-        self.cookie = secrets.token_hex(16)
+    def __init__(self, keeper: Member, hub: Hub, address: str, cookie: str) -> None:
+        number = keeper.kept.guests.get(cookie)
+        self.keeps = False  # the window of who keeps the board
+        self.cookie = secrets.token_hex(16) if number is None else cookie
+        self.is_returning = number is not None
+        self.had = [] if number is None else keeper.drawops_of(keeper.kept.drawn_by(number))
+        self.is_whole = threading.Event()  # it has been given what is held
         self.address = address
         self.events = Events()
         self.counting = threading.Lock()
@@ -60,16 +65,23 @@ class Guest:
         self.has_looked = False
         self.seen_at = time.monotonic()
         options = copy.copy(keeper.options)
+        options.me = None  # names the keeper alone
         carrier = Worse(hub.place(), options)
         record = Record(None)
         try:
-            self.member = Member(options, keeper.board.program, record, carrier, self.events, random_number(), keeper.words)
+            self.member = Member(options, keeper.board.program, record, carrier, self.events, random_number() if number is None else number, keeper.words)
         except BaseException:
             record.close()
             raise
         self.member.judge(Judging(self.member))
+        self.member.kept = keeper.kept
+        self.member.board.sync_kept = keeper.kept.sync
         self.member.streams = keeper.streams
         self.member.stage = keeper.stage
+
+    def may_draw(self) -> bool:
+        """Whether it can give no number twice: who returns waits until it has what it had drawn."""
+        return not self.is_returning or self.is_whole.wait(PATIENCE)
 
     def look(self) -> int:
         """One window more looks at it: how many do now. 0 if that were too many."""
@@ -102,6 +114,7 @@ class Guests:
         self.most = keeper.options.guests
         self.changed = threading.Lock()
         self.guests: Dict[str, Guest] = {}
+        self.others_may_clear = True
         self.paid: Dict[str, float] = {}  # new members of an address are paid for up to then
         self.threads: List[threading.Thread] = []
 
@@ -112,24 +125,52 @@ class Guests:
             guest.seen_at = time.monotonic()
         return guest
 
-    def begin(self, address: str) -> Guest:
-        """A member for one more browser. NoPlace if others need all, or if that address had too many new ones."""
+    def knows(self, cookie: str) -> bool:
+        """Whether a browser was here before: it goes on under its number."""
+        return cookie in self.keeper.kept.guests
+
+    def begin(self, address: str, cookie: str = "", is_here: bool = False) -> Guest:
+        """A member for one more browser, or for one that returns; the first of this machine is that of who keeps the board. NoPlace if others
+        need all, or if that address had too many new ones."""
         with self.changed:
-            if not self.admits(address):
+            there = self.guests.get(cookie)
+            if there:
+                return there
+            if not self.knows(cookie) and not self.admits(address):
                 raise NoPlace("too many browsers came from your address: open the page anew in a minute")
             if len(self.guests) >= self.most and not self.make_room(address):
                 raise NoPlace("%d browsers have members here, and there is no room for more" % self.most)
+            if self.is_leaving(cookie):
+                raise NoPlace("the member that you had here is ending: open the page anew")
             try:
-                guest = Guest(self.keeper, self.hub, address)
+                guest = Guest(self.keeper, self.hub, address, cookie)
+                self.keeper.kept.admit(guest.cookie, guest.member.me)
             except FAULTS as fault:
                 self.keeper.alarms.warn("a member for one more browser can't be started: %s" % fault)
                 raise NoPlace("a member can't be started here now") from fault
+            guest.keeps = is_here and not any(each.keeps for each in self.guests.values())
             self.guests[guest.cookie] = guest
-            thread = threading.Thread(target=self.run, args=(guest,), daemon=True)
+            self.tell_clearing()
+            thread = threading.Thread(target=self.run, args=(guest,), name=guest.cookie, daemon=True)
             self.threads = [each for each in self.threads if each.is_alive()] + [thread]
             thread.start()
         self.hand_over(guest)
         return guest
+
+    def let_clear(self, others: bool) -> Dict[str, bool]:
+        """Whether windows of others offer to clear and delete pages."""
+        self.others_may_clear = others
+        self.tell_clearing()
+        return {"others": others}
+
+    def tell_clearing(self) -> None:
+        for guest in list(self.guests.values()):
+            guest.member.may_clear = guest.keeps or self.others_may_clear
+            guest.member.others_may = self.others_may_clear if guest.keeps else None
+
+    def is_leaving(self, cookie: str) -> bool:
+        """Whether the member that a browser had before has not ended yet: two would have one number."""
+        return any(thread.is_alive() and thread.name == cookie for thread in self.threads)
 
     def admits(self, address: str) -> bool:
         """Whether an address may have a new member now."""
@@ -157,13 +198,20 @@ class Guests:
         return [guest for guest in self.guests.values() if guest.address == most] if count > counts[address] + 1 else []
 
     def hand_over(self, guest: Guest) -> None:
-        """Gives a new member all that is held, so that it has to ask for nothing. If that takes too long, it asks."""
-        keeper = self.keeper
+        """Gives a new member all that is held, so that it has to ask for nothing. If that takes too long, it asks; one that had drawn before is none
+        then, since it might give a number twice."""
+        keeper, member = self.keeper, guest.member
         try:
-            held = keeper.people.call(keeper.judging.given).result(PATIENCE)
+            drawops, strange = keeper.people.call(keeper.judging.given).result(PATIENCE)
+            taken = member.people.call(member.judging.take_over, [*drawops, *guest.had], strange)
+            if guest.is_returning:
+                taken.result(PATIENCE)
         except TooLate:
-            return
-        guest.member.people.call(guest.member.judging.take_over, *held)
+            if guest.is_returning:
+                member.end()
+                raise NoPlace("the board is busy: open the page anew") from None
+        guest.had = []
+        guest.is_whole.set()
 
     def run(self, guest: Guest) -> None:
         """The thread of a member. One whose host can't be started again is gone; the others go on."""

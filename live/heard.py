@@ -42,7 +42,7 @@ class Heard:
         now = self.board.moment
         if self.board.me in report.echoes:
             sent, held = report.echoes[self.board.me]
-            self.echoes[report.speaker] = now, (now - sent - held) // 2
+            self.echoes[report.speaker] = now, max(0, now - sent - held) // 2
         self.is_old = True
 
     def get(self, number: int) -> Optional[Other]:

@@ -82,6 +82,8 @@ def write_invitation(options: Options) -> str:
         words["lan"] = "%s:%d" % options.lan
     elif options.listen:
         raise InvitationFault("peers are named one by one: nobody joins them by an invitation")
+    elif options.is_alone:
+        raise InvitationFault("others join a class by the address of its page: an invitation takes a network, as --ports names one")
     else:
         words["ports"] = "%d" % options.ports
     if options.key:

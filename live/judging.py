@@ -64,6 +64,7 @@ class Judging:
         moments = [(board.due, self.member.tick), (self.tails.due(), self.member.repeat)]
         plan: List[Tuple[int, Callable[[], Any]]] = [(moment, act) for moment, act in moments if moment is not None]
         plan += [(board.moment, partial(board.tune, self.tuning))] if self.tuning != board.tuning else []
+        plan += [(board.moment, self.member.part)] if self.has_twin and self.member.may_part() else []
         return plan if self.member.is_ready else [*plan, (board.ready_at, self.member.people.begin)]
 
     # ---- what comes in

@@ -20,6 +20,7 @@ from .held import checked
 from .invitation import InvitationFault, code_of, write_invitation
 from .joining import Offer, Streams
 from .judging import Judging
+from .kept import Kept, path_beside
 from .keys import KeyFault, write_key
 from .member import Member
 from .options import Options, read_options
@@ -68,6 +69,10 @@ def join(options: Options, program: str, events: Events, held: ExitStack) -> Tup
     """The member of the network, and those of browsers, where each has its own."""
     record, me = open_record(options)
     held.callback(record.close)
+    kept = Kept(path_beside(record.path) if options.web else None, is_new=not record.size)
+    held.callback(kept.close)
+    if options.new_address:
+        kept.renew()
     carrier, udp, seal = open_network(options, me)
     hub = Hub(carrier) if options.guests else None
     held.callback(hub.end if hub else carrier.end)
@@ -75,6 +80,7 @@ def join(options: Options, program: str, events: Events, held: ExitStack) -> Tup
     member = Member(options, program, record, Worse(hub.place() if hub else carrier, options), events, me, words)
     held.callback(member.close)
     member.judge(Judging(member))
+    member.take_kept(kept)
     if udp:
         member.streams = Streams(udp, seal)
         offer = Offer(member, member.streams)

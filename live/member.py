@@ -6,7 +6,7 @@ import os
 import time
 from contextlib import ExitStack
 from functools import partial
-from typing import Any, Dict, Optional, Sequence, Union
+from typing import Any, Dict, List, Optional, Sequence, Union
 
 from wbhost import Block, HostEnded
 
@@ -19,20 +19,28 @@ from .events import Events
 from .inbox import Inbox
 from .joining import Streams
 from .judging import Judging
+from .kept import Kept, path_beside
 from .options import Options
-from .people import People
+from .people import People, Refused
 from .proving import Stage
 from .presence import Pointed, Presence, write
 from .record import Record
 from .replay import Playing
 from .telling import Telling
-from .views import Drawop, Page
+from .views import Drawop, Name, Page, name_of
 from .wire import Wire
 from .words import Words
+
+# How often a member takes a new number by itself within how many seconds, if somebody else speaks under its own. After that it draws nothing until
+# people want a new one.
+MOST_PARTINGS, PARTED_LATELY = 8, 3600.0
 
 # the page that is in view at first, and the one that a convention reserves for names, titles and the chat
 FIRST_PAGE: Page = (1, 1)
 NOTES: Page = (0, 0)
+
+# the name of no drawop
+NOTHING: Name = (0, NOTES, 0)
 
 
 class Member:
@@ -43,7 +51,10 @@ class Member:
         self.network = network
         self.streams: Optional[Streams] = None  # beside the network, where it has some
         self.me = me
+        self.former: List[int] = []  # numbers of ours before
+        self.parted: List[float] = []  # when it took a new number by itself
         self.words = words or Words(program)
+        self.kept = Kept()  # what stands beside the record
         self.inbox = Inbox()
         self.wire = Wire(events)
         self.alarms = Alarms()
@@ -51,6 +62,8 @@ class Member:
         self.page = FIRST_PAGE
         self.has_turned = False  # until then it goes where something is drawn
         self.is_ready = False
+        self.may_clear = True  # whether its windows offer to clear pages
+        self.others_may: Optional[bool] = None  # of who keeps the board: whether those of others do
         self.is_ended = False
         self.stage = Stage(program, is_proved=True)
         self.synced_at = time.monotonic()
@@ -63,6 +76,15 @@ class Member:
     def judge(self, judging: Union[Judging, Playing]) -> None:
         """What it concludes, and what it does by itself."""
         self.judging = judging
+
+    def take_kept(self, kept: Kept) -> None:
+        """Goes on with what stands beside the record: what was drawn for a window, and the record lacks since the program was killed."""
+        self.kept = kept
+        lacking = [digits for digits in kept.asked.values() if not self.drawn.holds(name_of(digits) or NOTHING)]
+        self.board.take_over(self.drawops_of(lacking), set())
+
+    def drawops_of(self, many: Sequence[str]) -> List[Drawop]:
+        return [Drawop(told.words, digits) for digits, told in zip(many, self.words.all(many)) if told.words]
 
     # ---- the loop
 
@@ -96,6 +118,7 @@ class Member:
         calls, arrivals = self.inbox.take(self.seconds_to_wait())
         for call in calls:
             call()
+        self.people.draw_all()
         if arrivals:
             self.judging.arrive(arrivals)
         self.pass_time()
@@ -200,14 +223,40 @@ class Member:
         self.has_turned = True
         self.telling.is_changed = True
 
+    def show(self, page: Page) -> None:
+        """Shows a page that a window has shown before this program was started, as the first."""
+        if not self.has_turned:
+            self.turn_to(page)
+            self.telling.tell_board()
+
     def renumber(self, me: int) -> None:
         """Goes on under another number, with all that is held."""
         self.board.renumber(me, new_path(self.board.record.path, self.me, me), list(self.drawn.all()))
+        self.kept.move(path_beside(self.board.record.path))
+        self.kept.renumber(self.me, me)
+        self.former.append(self.me)
         self.me = me
         self.presence.renumber(me)
         self.judging.end()
         self.judge(Judging(self))
         self.telling.is_changed = True
+
+    def may_part(self) -> bool:
+        """Whether it takes a new number by itself if somebody else has its own. That may be a member by mishap, or somebody who heard us and forges: they
+        look the same. Nobody did so often lately, and the words did not name the number."""
+        self.parted = [at for at in self.parted if time.monotonic() - at < PARTED_LATELY]
+        return self.options.me is None and len(self.parted) < MOST_PARTINGS
+
+    def part(self) -> None:
+        """Takes a new number by itself, and says so. If its record can't be written, nothing is drawn, as before."""
+        before = self.me
+        self.parted.append(time.monotonic())
+        try:
+            self.people.renumber()
+        except Refused as fault:
+            self.alarms.warn(str(fault))
+        else:
+            self.alarms.warn("somebody else spoke under our number %d: we draw on as member %d" % (before, self.me))
 
 
 def new_path(path: Optional[str], old: int, new: int) -> Optional[str]:

@@ -35,6 +35,7 @@ class Options(argparse.Namespace):
     listen: Optional[Address]
     peer: List[Address]
     ports: int
+    is_alone: bool  # a class of its own: its browsers alone, and no network
     invitation: Optional[Dict[str, str]]
     broker: Optional[Broker]
     login: Optional[Login]
@@ -47,6 +48,7 @@ class Options(argparse.Namespace):
     web: Optional[Tuple[str, int, bool]]  # an address, and whether the words name one; None: serves no page
     guests: int  # the most browsers that have a member of their own; 0: all browsers are one member
     origin: List[str]
+    new_address: bool
     terminal: bool
     open: bool
     record: Optional[str]
@@ -138,7 +140,7 @@ def parser() -> argparse.ArgumentParser:
     net("--interface", default="0.0.0.0", metavar="A", help="the address of the interface on which the group is joined")
     net("--listen", type=address, metavar="HOST:PORT", help="listens here, and sends to each --peer")
     net("--peer", type=address, action="append", metavar="HOST:PORT", help="another member, which listens there; may be repeated")
-    net("--ports", type=within(1, 65_535 - PORTS, int), default=FIRST_PORT, metavar="FIRST", help="the first of the %d ports of this machine, else %d" % (PORTS, FIRST_PORT))
+    net("--ports", type=within(1, 65_535 - PORTS, int), metavar="FIRST", help="the first of the %d ports of this machine, else %d" % (PORTS, FIRST_PORT))
     net("--me", type=within(0, 2**32 - 1, int), metavar="N", help="the number of this member, which no other may have; else that of its record, or a random one")
     net("--rate", type=within(1, 10**6, int), default=RATE, metavar="BYTES", help="what the reports of all members may take together, in bytes a second, else %d; 400 for slow links" % RATE)
     shut = made.add_argument_group("who may read").add_argument
@@ -149,9 +151,10 @@ def parser() -> argparse.ArgumentParser:
     shut("--invite", action="store_true", help="prints a line for others to join this session, with its key, and ends")
     shut("--page", type=page_address, metavar="URL", help="the line of --invite begins with the address of this page, which wb --page built")
     seen = made.add_argument_group("where it is seen").add_argument
-    seen("--web", type=web_address, default=("127.0.0.1", -1, False), metavar="PORT", help="serves the page on this port of 127.0.0.1; with ADDRESS:PORT it is served there, and each browser is a member of its own")
+    seen("--web", type=web_address, default=("127.0.0.1", -1, False), metavar="PORT", help="serves the page on this port of 127.0.0.1; with ADDRESS:PORT it is served there, each browser is a member of its own, and nobody else joins unless --ports, --lan, --peer or --broker is given")
     seen("--guests", type=within(1, GUESTS, int), metavar="N", help="the most browsers that have a member of their own, else %d" % GUESTS)
     seen("--origin", type=origin, action="append", default=[], metavar="URL", help="another address of the page, as https://board.example.org, behind a proxy; may be repeated")
+    seen("--new-address", action="store_true", help="the page gets another address; else it keeps the one that it had with this record, and whoever had that comes back")
     seen("--no-web", dest="web", action="store_const", const=None, help="serves no page, and paints it in the terminal")
     seen("--terminal", action="store_true", default=None, help="paints the page in the terminal")
     seen("--no-terminal", dest="terminal", action="store_false", help="paints nothing in the terminal")
@@ -183,7 +186,7 @@ def take_invitation(options: Options) -> None:
     options.broker = words.get("broker")  # type: ignore[assignment]
     try:
         options.lan = address(words["lan"]) if "lan" in words else None
-        options.ports = within(1, 65_535 - PORTS, int)(words.get("ports", "%d" % options.ports))
+        options.ports = within(1, 65_535 - PORTS, int)(words.get("ports", "%d" % (options.ports or FIRST_PORT)))
     except argparse.ArgumentTypeError as fault:
         raise InvitationFault("the invitation names no network: %s" % fault) from fault
 
@@ -217,6 +220,8 @@ def read_options(words: List[str]) -> Options:
     if (options.login or options.ca) and not options.broker:
         made.error("--password-file and --ca go with --broker")
     options.guests = (options.guests or GUESTS) if options.web and options.web[2] and not options.replay else 0
+    options.is_alone = bool(options.guests) and not (options.ports or options.lan or options.listen or options.broker)
+    options.ports = options.ports or FIRST_PORT
     if (options.listen is None) != (not options.peer):
         made.error("--listen and --peer go together")
     if options.lan and options.listen:

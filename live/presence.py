@@ -1,9 +1,9 @@
-"""Where others point, and what they have begun: datagrams between drivers, of which no host ever hears. They are not repaired, not
+"""Where others point, what they have begun, and what they have in view: datagrams between drivers, of which no host ever hears. They are not repaired, not
 recorded, and refused by whoever does not know them, since they do not begin as a host's datagrams do.
 
 A datagram has the two bytes "WP", the version 1 and a zero; the member (4 bytes); the page: creator and number (4 each); the column and
-the row (2 each), or 65535 and 65535 where it points nowhere; and then what is begun, as lines of ASCII such as `line 0 0 4 4 *`. Numbers
-are unsigned, with the most significant byte first."""
+the row (2 each), or 65535 and 65535 where it points nowhere; and then what is begun and what is in view, as lines of ASCII such as
+`line 0 0 4 4 *` (docs/PROTOCOL.md, "Pointers"). Numbers are unsigned, with the most significant byte first."""
 from __future__ import annotations
 
 import struct
@@ -79,7 +79,7 @@ class Presence:
             if point is None or point.member == self.me or not self.heeds(point.member):
                 return
             self.others.pop(point.member, None)
-            if point.cell is not None:
+            if point.cell is not None or point.begun:
                 self.others[point.member] = time.monotonic(), point
             self.tell()
 

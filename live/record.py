@@ -12,6 +12,7 @@ import re
 import stat
 import tempfile
 import time
+from pathlib import Path
 from typing import Iterator, List, Optional
 
 # no line of a record is longer than this: the longest has a datagram of 65,507 bytes
@@ -119,8 +120,8 @@ class Record:
     def __init__(self, path: Optional[str]) -> None:
         self.path = path
         self.file = self.open(path)
-        self.size = self.good_size()
-        self.is_synced = True
+        self.size = self.synced = self.good_size()
+        self.is_named = False  # whether its name is on the disk too, where it may be new
 
     def open(self, path: Optional[str]) -> int:
         if path is None:
@@ -178,23 +179,29 @@ class Record:
             if os.pwrite(self.file, text, self.size) < len(text):
                 raise OSError(errno.ENOSPC, "no room")
         except OSError as fault:
-            self.cut()
+            self.cut(self.size)
             raise NoRoom(fault.strerror) from fault
         self.size += len(text)
-        self.is_synced = False
 
-    def cut(self) -> None:
-        """Takes off what was written last in part."""
-        os.ftruncate(self.file, self.size)
+    def cut(self, size: int) -> None:
+        """Takes off what was written beyond a size."""
+        os.ftruncate(self.file, size)
+        self.size = size
 
     def sync(self) -> None:
-        """Puts all lines on the disk: a crash of the machine does not lose them from now on."""
-        if not self.is_synced and self.path is not None:
-            try:
-                os.fsync(self.file)
-            except OSError as fault:
-                raise NoRoom(fault.strerror) from fault
-            self.is_synced = True
+        """Puts all lines on the disk: a crash of the machine does not lose them from now on. NoRoom if the disk does not take them: then those since
+        the last sync are not in the record."""
+        if self.path is None or (self.is_named and self.synced == self.size):
+            return
+        try:
+            os.fsync(self.file)
+            if not self.is_named:
+                sync_folders(self.path)
+        except OSError as fault:
+            self.cut(self.synced)
+            raise NoRoom(fault.strerror) from fault
+        self.is_named = True
+        self.synced = self.size
 
     def remove(self) -> None:
         """Closes it and removes it. OSError if its folder does not let it go."""
@@ -226,6 +233,22 @@ class Record:
         self.file = -1
 
 
+def sync_folders(path: str) -> None:
+    """Puts the name of a file on the disk, and those of the folders that it is in. One that can't be opened was there before."""
+    for folder in Path(os.path.abspath(path)).parents:
+        try:
+            opened = os.open(folder, os.O_RDONLY | os.O_DIRECTORY)
+        except OSError:
+            return
+        try:
+            os.fsync(opened)
+        except OSError as fault:
+            if fault.errno not in (errno.EINVAL, errno.EROFS):  # else there is nothing to sync
+                raise
+        finally:
+            os.close(opened)
+
+
 def comment(text: str) -> str:
     """A line with the time of day, which changes nothing."""
     return "# %s at %s" % (text, time.strftime("%Y-%m-%d %H:%M:%S"))
@@ -243,7 +266,7 @@ def write_record(path: Optional[str], lines: List[str]) -> Record:
         record.sync()
         if made and path:
             os.rename(made, path)
-            record.path = path
+            record.path, record.is_named = path, False
     except (NoRoom, OSError):
         record.remove()
         raise

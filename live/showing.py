@@ -5,10 +5,32 @@ from itertools import islice
 from typing import TYPE_CHECKING, Dict, Iterable, List, NamedTuple, Optional, Set, Tuple
 
 from .drawn import Sheet
+from .events import compact
 from .views import Drawop, Name, Page
 
 if TYPE_CHECKING:
     from .board import Board
+
+
+class Erased(NamedTuple):
+    """A drawing that is hidden, the delete that took it away, and what the source of that did just before."""
+
+    drawop: Drawop
+    by: Optional[Drawop]
+    before: Optional[Drawop]
+
+    @property
+    def name(self) -> Name:
+        return self.drawop.name
+
+    @property
+    def words(self) -> str:
+        return self.drawop.words
+
+    def text(self) -> str:
+        """The drawing as JSON, with who erased it, under which number and when, and of which kind the operation before was."""
+        by = [self.by.name[0], self.by.name[2], str(self.by.time), self.before and self.before.kind] if self.by else None
+        return '%s,"erased":%s}' % (self.drawop.text()[:-1], compact(by))
 
 
 class Since(NamedTuple):
@@ -26,7 +48,7 @@ class Change(NamedTuple):
 
     names: List[Name]
     added: List[Tuple[int, Drawop]]
-    hidden: List[Drawop]
+    hidden: List[Erased]
 
 
 NO_CHANGE = Change([], [], [])
@@ -41,7 +63,7 @@ class Showing:
         self.seen = 0  # how many of the page were held then
         self.shown: List[Drawop] = []
         self.names: Set[Name] = set()  # of these
-        self.hidden: Dict[Name, Drawop] = {}
+        self.hidden: Dict[Name, Erased] = {}
 
     def renew(self, board: Board, sheet: Sheet) -> Change:
         """Asks the host once more. What was shown and still is has not changed, though the host may say it."""
@@ -49,8 +71,11 @@ class Showing:
         stays = {name for _, name, _ in since.shown} & self.names
         added = [(place, held.get(name) or Drawop(words)) for place, name, words in since.shown if name not in stays]
         gone, names = since.hidden & self.names - stays, stays.union(drawop.name for _, drawop in added)
-        changed = touched(islice(held.values(), self.seen, None))
-        hidden = [held[name] for name in changed if name not in names and name in held and held[name].is_drawing()]
+        new = list(islice(held.values(), self.seen, None))
+        # what a hidden drawing's eraser did before may come after that
+        late = [drawop for drawop in filter(None, map(sheet.after, new)) if not drawop.is_drawing() and drawop.aimed() in self.hidden]
+        changed = touched(late + new)
+        hidden = [erased_on(sheet, held[name]) for name in changed if name not in names and name in held and held[name].is_drawing()]
         change = Change([name for name in changed if name in gone or name in self.hidden], added, hidden)
         self.held, self.seen = since.held, len(held)
         self.put_in(change, gone)
@@ -68,9 +93,14 @@ class Showing:
             self.shown.insert(place, drawop)
             self.names.add(drawop.name)
             self.hidden.pop(drawop.name, None)
-        for drawop in change.hidden:
-            self.hidden.pop(drawop.name, None)
-            self.hidden[drawop.name] = drawop
+        for erased in change.hidden:
+            self.hidden.pop(erased.name, None)
+            self.hidden[erased.name] = erased
+
+
+def erased_on(sheet: Sheet, drawop: Drawop) -> Erased:
+    by = sheet.eraser(drawop.name)
+    return Erased(drawop, by, sheet.before(by) if by else None)
 
 
 def touched(drawops: Iterable[Drawop]) -> Dict[Name, None]:

@@ -21,8 +21,8 @@ def random_number() -> int:
 
 
 def session_name(options: Options) -> str:
-    """What tells sessions apart: a broker, a group, where one listens, or the ports of this machine; a name; and a key, since what was
-    drawn under one is nothing for those who have another."""
+    """What tells sessions apart: a broker, a group, where one listens, the ports of this machine, or the page of a class of its own; a name; and a
+    key, since what was drawn under one is nothing for those who have another."""
     return carrier_name(options) + ("" if options.session == FIRST_NAME else "-" + options.session) + ("-" + digest_of(options.key) if options.key else "")
 
 
@@ -33,7 +33,7 @@ def carrier_name(options: Options) -> str:
         return "group-%s-%d" % options.lan
     if options.listen:
         return "listen-%s-%d" % options.listen
-    return "ports-%d" % options.ports
+    return "web-%d" % options.web[1] if options.is_alone and options.web else "ports-%d" % options.ports
 
 
 def folder_of(options: Options) -> Path:

@@ -126,6 +126,7 @@ class Telling:
             "me": member.me, "mode": member.network.where, "notice": notice_of(member), "program": member.board.program,
             "teach": options.teach, "worsen": options.worse(), "cells": member.board.cells, "ready": member.is_ready,
             "twin": member.judging.has_twin, "broken": member.board.is_broken, "proof": member.stage.told(),
+            "clears": member.may_clear, **({} if member.others_may is None else {"othersClear": member.others_may}),
         })
 
     # ---- the page
@@ -201,18 +202,26 @@ class Telling:
     # ---- what stands beside it
 
     def tell_pages(self) -> None:
-        told = [{"page": page_text(page), "drawn": self.member.drawn.count(page)} for page in self.pages()]
+        sheets = [(page, self.member.drawn.sheet(page)) for page in self.pages()]
+        told = [{"page": page_text(page), "drawn": len(sheet.drawops), "last": str(sheet.last)} for page, sheet in sheets]
         self.events.tell("pages", {"page": page_text(self.member.page), "pages": told})
 
     def pages(self) -> List[Page]:
-        """As many as are shown: the page in view, and those of members before those of strangers alone. They stand by their numbers, since one
-        turns through them. If there are more, the host says which."""
+        """As many as are shown: the page in view, and those of members before those of strangers alone. They stand in the order in which they were
+        begun, so all members that hold the same number them alike. If there are more, the host says which."""
         drawn_on = self.member.drawn.drawn_pages()
         order = drawn_on if len(drawn_on) <= MOST_PAGES else self.member.board.pages(MOST_PAGES) or drawn_on
         strange = {page for page in drawn_on if self.is_strange(page)}
         members = [page for page in order if page not in strange]
         told = dict.fromkeys([self.member.page, *members, *self.reported.pages(), *order])
-        return sorted(list(told)[:MOST_PAGES], key=lambda page: (page in strange, page))
+        given: Dict[Page, Set[Name]] = {}  # what no member gave: it does not move a page of members
+        for name in self.member.board.strange:
+            given.setdefault(name[1], set()).add(name)
+
+        def rank(page: Page) -> Tuple[bool, float, Page]:
+            return page in strange, self.member.drawn.sheet(page).begun_by(given.get(page, set())), page
+
+        return sorted(list(told)[:MOST_PAGES], key=rank)
 
     def is_strange(self, page: Page) -> bool:
         """Whether no member has drawn on a page."""

@@ -142,7 +142,7 @@ class Terminal:
         """Does what a line says, and gives what to say of it."""
         people, word = self.member.people, line.split(" ", 1)[0]
         commands: Dict[str, Callable[[], str]] = {
-            "undo": lambda: str(people.call(people.undo).result(PATIENCE)["words"]),
+            "undo": lambda: str(people.undo().result(PATIENCE)["words"]),
             "page": lambda: "page %s" % people.call(people.turn_to, page_of(line[5:])).result(PATIENCE)["page"],
             "new": lambda: "page %s" % people.call(people.new_page).result(PATIENCE)["page"],
             "number": lambda: "you are member %d now" % people.call(people.renumber).result(PATIENCE)["me"],

@@ -4,22 +4,22 @@ from __future__ import annotations
 import hmac
 import json
 import re
-import secrets
 import socket
 import threading
 import time
 from concurrent.futures import TimeoutError as TooLate
 from contextlib import ExitStack
 from http.server import BaseHTTPRequestHandler, ThreadingHTTPServer
-from pathlib import Path
 from typing import Any, Callable, Dict, List, Optional, Set, Tuple
 from urllib.parse import parse_qs, urlsplit
 
 from .connections import Connections
 from .events import Events, Watcher, compact
+from .files import HTML, NOTHING, File, page_files, refusal
 from .film import SPEEDS
 from .following import CannotFollow, Following
 from .guests import Guest, Guests, NoPlace
+from .kept import ASKED
 from .member import Member
 from .options import Address, Options
 from .people import Refused
@@ -27,13 +27,10 @@ from .presence import point_in
 from .sockets import PING, TEXT, acceptance, frame, has_ended, is_key
 from .views import Page, page_of
 
-PAGE = Path(__file__).resolve().parent / "ui"
-
-# what is served of that directory beside its index, by the end of the name
-KINDS = {".js": "text/javascript; charset=utf-8", ".css": "text/css; charset=utf-8"}
-
-# bytes of a body, and streams of events
+# bytes of a body, and of one that has many operations; how many of these; and streams of events
 MOST_BODY = 1_024
+MOST_DRAWING = 65_536
+MOST_OPERATIONS = 128
 MOST_STREAMS = 128
 
 # seconds without a byte of a request, or of an answer, and that a drawing may take
@@ -65,7 +62,6 @@ POLICY = (
 )
 
 HEADERS = {
-    "Cache-Control": "no-store",
     "Content-Security-Policy": POLICY,
     "Referrer-Policy": "no-referrer",
     "X-Content-Type-Options": "nosniff",
@@ -98,11 +94,6 @@ def own_address() -> str:
             return "127.0.0.1"
 
 
-def page_files() -> Dict[str, Tuple[str, bytes]]:
-    """The scripts and styles of the page by their paths: of what kind each is, and its bytes."""
-    return {"/page/" + file.name: (KINDS[file.suffix], file.read_bytes()) for file in PAGE.iterdir() if file.suffix in KINDS}
-
-
 class Web(ThreadingHTTPServer):
     """Serves one member, or each browser its own."""
 
@@ -119,7 +110,7 @@ class Web(ThreadingHTTPServer):
         # what a browser calls this server: by its own address, or by those of the words, as a proxy hands them on
         self.origins = spellings(["http://%s:%d" % (name, port) for name in names] + options.origin)
         self.is_behind = bool(options.origin)  # a proxy
-        self.token = secrets.token_hex(16)
+        self.token = member.kept.key
         here = "http://%s:%d" % (own_address() if self.is_everywhere else host, port)
         self.urls = ["%s/%s/" % (origin, self.token) for origin in [here, *options.origin]]
         self.member = member
@@ -127,8 +118,7 @@ class Web(ThreadingHTTPServer):
         self.guests = guests
         self.following = Following(options)
         self.streams = threading.Semaphore(MOST_STREAMS)
-        self.page = (PAGE / "index.html").read_text().replace("__TOKEN__", self.token).encode()
-        self.files = page_files()
+        self.files = page_files(self.token)
 
     def process_request(self, request: Any, client_address: Any) -> None:
         """Each connection has a thread, while there are not too many."""
@@ -146,10 +136,11 @@ class Web(ThreadingHTTPServer):
 
 
 class Handler(BaseHTTPRequestHandler):
-    """One request: a connection has no second one."""
+    """The requests of a connection, one after another."""
 
     server: Web
     timeout = PATIENCE
+    protocol_version = "HTTP/1.1"
     sys_version = ""
 
     def log_message(self, format: str, *arguments: Any) -> None:
@@ -174,12 +165,19 @@ class Handler(BaseHTTPRequestHandler):
         if not self.has_asked:
             raise ConnectionAbortedError
 
+    def handle_one_request(self) -> None:
+        """After a request that was heard whole there may be one more; what was not read of any other is none."""
+        super().handle_one_request()
+        if not self.has_asked:
+            self.close_connection = True
+        if not self.close_connection:
+            self.has_asked = False
+            self.server.connections.rest(self.connection)
+
     def do_GET(self) -> None:
         self.heard()
-        paths: Dict[str, Callable[[], None]] = {
-            "/": self.send_page, "/events": self.send_events, "/board": self.send_board, "/record": self.send_record,
-        }
-        paths.update(dict.fromkeys(self.server.files, self.send_file))
+        paths: Dict[str, Callable[[], None]] = dict.fromkeys(self.server.files, self.send_file)
+        paths.update({"/": self.send_page, "/events": self.send_events, "/board": self.send_board, "/record": self.send_record})
         self.answer(paths)
 
     def do_POST(self) -> None:
@@ -188,24 +186,33 @@ class Handler(BaseHTTPRequestHandler):
             paths["/film"] = self.film
         else:
             paths["/next"] = self.go_on
+        if self.server.guests:
+            paths["/clearing"] = self.let_clear
         if self.server.member.options.teach:
             paths["/worsen"] = self.worsen
         self.answer(paths)
 
     def answer(self, paths: Dict[str, Callable[[], None]]) -> None:
-        """Serves a path behind the key of this run, or tells why not."""
+        """Serves a path behind the key of the address, or tells why not."""
         try:
             self.check_origin()
             _, key, path = (urlsplit(self.path).path + "//").split("/", 2)
             path = "/" + path[:-2]
-            self.check_token(key, "open the address that wb-live printed, which has the key of this run")
+            self.check_token(key, "open the address that wb-live printed, which has its key")
             if path not in paths:
                 raise Fault(405, "method") if path in ("/", "/events", "/board", "/record", "/draw", "/page") else Fault(404, "no such path")
             self.file = path
-            if self.server.guests and path not in self.server.files:
+            if self.server.guests and (path == "/" or path not in self.server.files):
                 self.admit(self.server.guests, path == "/")
             paths[path]()
         except Fault as fault:
+            self.refuse(fault)
+
+    def refuse(self, fault: Fault) -> None:
+        """Tells why something is refused: to who looks, as a page."""
+        if self.command == "GET" and "text/html" in self.headers.get("Accept", ""):
+            self.send_bytes(HTML, refusal(fault.status, str(fault)), status=fault.status)
+        else:
             self.send_json(fault.status, {"ok": False, "fault": str(fault)})
 
     def check_origin(self) -> None:
@@ -226,14 +233,17 @@ class Handler(BaseHTTPRequestHandler):
 
     def admit(self, guests: Guests, may_begin: bool) -> None:
         """Finds the member of this browser by its cookie. Who opens the page gets one."""
-        guest = guests.find(cookie_in(self.headers.get("Cookie", "")))
-        if guest is None and may_begin:
+        cookie = cookie_in(self.headers.get("Cookie", ""))
+        guest = guests.find(cookie)
+        if guest is None and (may_begin or guests.knows(cookie)):
             try:
-                guest = guests.begin(self.address())
+                guest = guests.begin(self.address(), cookie, self.is_here())
             except NoPlace as fault:
                 raise Fault(503, str(fault)) from fault
         if guest is None:
             raise Fault(403, "open the page anew: this browser has no member here")
+        if not guest.may_draw():
+            raise Fault(503, "busy")
         self.guest, self.member, self.events = guest, guest.member, guest.events
 
     def address(self) -> str:
@@ -242,19 +252,37 @@ class Handler(BaseHTTPRequestHandler):
         here = str(self.client_address[0])
         return told[-1].rpartition(",")[2].strip() if told and self.server.is_behind and here.startswith("127.") else here
 
+    def is_here(self) -> bool:
+        """Whether a browser is on this machine, and no proxy stands between."""
+        return not self.headers.get_all("X-Forwarded-For") and self.client_address[0] == self.connection.getsockname()[0]
+
     # ---- what is served
 
     def send_page(self) -> None:
-        cookie = {"Set-Cookie": "%s=%s; HttpOnly; SameSite=Lax; Path=/%s/" % (COOKIE, self.guest.cookie, self.server.token)} if self.guest else {}
-        self.send_bytes("text/html; charset=utf-8", self.server.page, cookie)
+        """The page itself. It is sent whole to whom it gives a cookie."""
+        is_known = self.guest is None or self.guest.cookie == cookie_in(self.headers.get("Cookie", ""))
+        cookie = "%s=%s; HttpOnly; SameSite=Lax; Path=/%s/" % (COOKIE, self.guest.cookie, self.server.token) if self.guest else ""
+        self.send_made(self.server.files["/"], is_known, {"Set-Cookie": cookie} if cookie else {})
 
     def send_file(self) -> None:
         """A script or a style of the page."""
-        self.send_bytes(*self.server.files[self.file])
+        self.send_made(self.server.files[self.file], True, {})
+
+    def send_made(self, file: File, may_have: bool, more: Dict[str, str]) -> None:
+        """A file, packed if the browser reads that, or that it is the same as the browser has."""
+        is_packed = "gzip" in self.headers.get("Accept-Encoding", "")
+        more = {"Cache-Control": file.keeping, "ETag": file.tag, "Vary": "Accept-Encoding", **more}
+        if may_have and file.tag in self.headers.get("If-None-Match", ""):
+            self.send_bytes(file.kind, b"", more, 304)
+        else:
+            self.send_bytes(file.kind, file.packed if is_packed else file.body, {**more, **({"Content-Encoding": "gzip"} if is_packed else {})})
 
     def send_bytes(self, kind: str, body: bytes, more: Optional[Dict[str, str]] = None, status: int = 200) -> None:
         self.send_response(status)
-        told = {"Content-Type": kind, **HEADERS, **(more or {}), "Content-Length": str(len(body))}
+        length = {} if status == 304 else {"Content-Type": kind, "Content-Length": str(len(body))}
+        told = {"Cache-Control": NOTHING, **HEADERS, **length, **(more or {})}
+        if not self.has_asked:  # the body of what is refused is not read
+            told["Connection"] = "close"
         for name, value in told.items():
             self.send_header(name, value)
         self.end_headers()
@@ -284,16 +312,25 @@ class Handler(BaseHTTPRequestHandler):
         key = self.headers.get("Sec-WebSocket-Key")
         if self.headers.get("Upgrade", "").lower() != "websocket" or not is_key(key):
             raise Fault(426, "a WebSocket")
+        self.show_page()
         with ExitStack() as held:
             self.take_place(held)
             self.close_connection = True
-            self.protocol_version = "HTTP/1.1"
             self.send_response(101)
             for name, value in (("Upgrade", "websocket"), ("Connection", "Upgrade"), ("Sec-WebSocket-Accept", acceptance(key or ""))):
                 self.send_header(name, value)
             self.end_headers()
             self.connection.setsockopt(socket.IPPROTO_TCP, socket.TCP_NODELAY, 1)
             self.stream(Watcher(self.events))
+
+    def show_page(self) -> None:
+        """A window that has shown a page goes on with that one at a program that was started anew."""
+        told = parse_qs(urlsplit(self.path).query).get("page")
+        try:
+            if told and not self.member.has_turned:
+                self.member.people.call(self.member.show, page_of(told[0])).result(DRAW_PATIENCE)
+        except ValueError:
+            raise Fault(400, "page") from None
 
     def take_place(self, held: ExitStack) -> None:
         """A place for a stream while it lasts. The first window of a browser with a member has one in any case, so that nobody else's windows
@@ -329,14 +366,14 @@ class Handler(BaseHTTPRequestHandler):
 
     # ---- what is drawn
 
-    def body(self) -> Dict[str, Any]:
+    def body(self, most: int = MOST_BODY) -> Dict[str, Any]:
         """The object that a request brings, from our own page."""
         self.check_token(self.headers.get("X-Wb-Token"))
         length = self.headers.get("Content-Length", "")
         if not re.fullmatch("[0-9]{1,9}", length):
             raise Fault(411, "length")
-        if int(length) > MOST_BODY:
-            raise Fault(413, "body of over %d bytes" % MOST_BODY)
+        if int(length) > most:
+            raise Fault(413, "body of over %d bytes" % most)
         data = self.rfile.read(int(length))
         self.heard()
         try:
@@ -349,19 +386,31 @@ class Handler(BaseHTTPRequestHandler):
 
     def give(self, future: Any) -> None:
         """Answers with what the member's thread gives."""
-        try:
-            self.send_json(200, dict(future.result(DRAW_PATIENCE), ok=True))
-        except Refused as fault:
-            raise Fault(503 if str(fault) in ("busy", "ended") else 422, str(fault)) from None
-        except TooLate:
-            raise Fault(503, "busy") from None
+        answer = answer_of(future, time.monotonic() + DRAW_PATIENCE)
+        if not answer["ok"]:
+            raise Fault(answer["status"], answer["fault"])
+        self.send_json(200, answer)
 
     def draw(self) -> None:
-        body = self.body()
-        page = self.page_in(body, ["op", "page"])
+        """Draws an operation, or many: each may have a name, under which it is drawn once."""
+        body = self.body(MOST_DRAWING)
+        if list(body) != ["many"]:
+            self.give(self.member.people.draw(*self.drawing_in(body)))
+            return
+        if not isinstance(body["many"], list) or len(body["many"]) > MOST_OPERATIONS or not all(isinstance(each, dict) for each in body["many"]):
+            raise Fault(400, "fields")
+        until = time.monotonic() + DRAW_PATIENCE
+        asked = [self.member.people.draw(*drawing) for drawing in [self.drawing_in(each) for each in body["many"]]]
+        self.send_json(200, {"ok": True, "answers": [answer_of(future, until) for future in asked]})
+
+    def drawing_in(self, body: Dict[str, Any]) -> Tuple[Page, str, str]:
+        """The page, the operation and the name of a drawing that is asked for."""
+        page = self.page_in(body, ["id", "op", "page"] if "id" in body else ["op", "page"])
         if not body["op"].isprintable():
             raise Fault(400, "control characters")
-        self.give(self.member.people.draw(page, body["op"]))
+        if "id" in body and not ASKED.fullmatch(body["id"]):
+            raise Fault(400, "id")
+        return page, body["op"], body.get("id", "")
 
     def turn(self) -> None:
         body, people = self.body(), self.member.people
@@ -394,6 +443,15 @@ class Handler(BaseHTTPRequestHandler):
             raise Fault(422, str(fault)) from None
         self.send_json(200, {"ok": True, "address": address})
 
+    def let_clear(self) -> None:
+        """The window of who keeps the board says whether those of others may clear pages."""
+        body, guests = self.body(), self.server.guests
+        if not (guests and self.guest and self.guest.keeps):
+            raise Fault(403, "only the window of who keeps the board decides that")
+        if list(body) != ["others"] or not isinstance(body["others"], bool):
+            raise Fault(400, "fields")
+        self.send_json(200, dict(guests.let_clear(body["others"]), ok=True))
+
     def renumber(self) -> None:
         body, people = self.body(), self.member.people
         if body != {"new": True}:
@@ -419,6 +477,16 @@ class Handler(BaseHTTPRequestHandler):
             return page_of(body["page"])
         except ValueError:
             raise Fault(400, "page") from None
+
+
+def answer_of(future: Any, until: float) -> Dict[str, Any]:
+    """What the member's thread gives in time, or why it does not."""
+    try:
+        return dict(future.result(max(0.0, until - time.monotonic())), ok=True)
+    except Refused as fault:
+        return {"ok": False, "fault": str(fault), "status": 503 if str(fault) in ("busy", "ended") else 422}
+    except TooLate:
+        return {"ok": False, "fault": "busy", "status": 503}
 
 
 def cookie_in(header: str) -> str:

@@ -14,6 +14,7 @@ from pathlib import Path
 from typing import Any, Dict, List, Optional, Tuple
 
 HERE = Path(__file__).resolve().parent
+THIRD_PARTY = HERE.parent / "tools/installed/THIRD-PARTY"
 
 # the earliest moment that an archive can tell
 MOMENT = (1980, 1, 1, 0, 0, 0)
@@ -56,6 +57,8 @@ def write_wheel(folder: Path, built: List[Path]) -> str:
     tag = name[len("%s-%s-" % (said("name"), said("version"))):-len(".whl")]
     told = "Wheel-Version: 1.0\nGenerator: wheels.py\nRoot-Is-Purelib: %s\nTag: %s\n" % (str(not built).lower(), tag)
     files = modules() + [("wb/" + path.name, path.read_bytes(), 0o755) for path in built]
+    if built:
+        files += [(home + "/licenses/THIRD-PARTY", THIRD_PARTY.read_bytes(), 0o644)]
     files += [(home + "/METADATA", metadata(), 0o644), (home + "/WHEEL", told.encode(), 0o644)]
     record = "".join("%s,%s,%d\n" % (path, digest(content), len(content)) for path, content, _ in files) + home + "/RECORD,,\n"
     with zipfile.ZipFile(folder / name, "w", zipfile.ZIP_DEFLATED) as archive:

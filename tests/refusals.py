@@ -1,37 +1,27 @@
-"""What each edit that must fail was last refused over.
+"""Over which text each edit that must fail was last refused.
 
-The line `# refused: DIGEST` of an edit says that its goal refused it over a text with this digest: the edit itself, its crate, the crates
-below that, and the toolchain. While all of these stay the same, the prover would say the same again: comments say nothing to it, so a line that
-is a comment does not count. tests/try-edits writes the line and tries the other edits; tests/edits looks whether each edit was tried or is
-recorded so.
+A line `CRATE/NAME DIGEST` of tests/edits/edits.lock says that the goal of this edit refused it over a text with this digest: the edit itself and its
+crate. What a crate below promises stands in its clauses, and a crate that no longer fits them is not proved at all. So a change there makes no edit
+due here; `./test --every-edit` tries each, before a release and with a new toolchain. Comments say nothing to the prover, so a line that is a
+comment does not count. tests/try-edits writes the file and tries the edits that are due; tests/edits looks whether each was tried or is recorded.
 """
 
 from __future__ import annotations
 
 import hashlib
 import re
-import shutil
-import subprocess
+import threading
 from functools import lru_cache
 from pathlib import Path
 
 TOP = Path(__file__).resolve().parent.parent
-RECORD = re.compile(r"^# refused: ([0-9a-f]+)\n", re.MULTILINE)
+LOCK = Path("tests/edits/edits.lock")
 PARTS = ("src", "specs", "proofs")
 # the lines that are comments, by the ending of a file
 COMMENTS = {".rt": re.compile(rb"^[ \t]*//.*\n?", re.MULTILINE), ".antt": re.compile(rb"^[ \t]*-- .*\n?", re.MULTILINE)}
 
 
-@lru_cache(maxsize=None)
-def toolchain() -> str:
-    """The line that names the toolchain; empty if there is none."""
-    rt = shutil.which("rt")
-    if rt is None:
-        return ""
-    identity = Path(rt).resolve().parent.parent / "KIT-ID"
-    if identity.is_file():
-        return identity.read_text().splitlines()[0]
-    return subprocess.run([rt, "version"], stdout=subprocess.PIPE, text=True, check=True).stdout.splitlines()[0]
+writing = threading.Lock()
 
 
 @lru_cache(maxsize=None)
@@ -49,12 +39,11 @@ def without_comments(path: Path) -> bytes:
 
 @lru_cache(maxsize=None)
 def digest_of_crate(top: Path, crate: str) -> str:
-    """One hash of a crate and of all that it stands on in this repository: each file by its name and by its text without comments."""
-    lines, folder = lines_of_crates(top), top / "crates" / crate
-    told = [lines[crate]]
+    """One hash of a crate: its line of crates.txt, and each file by its name and by its text without comments."""
+    folder = top / "crates" / crate
+    told = [lines_of_crates(top)[crate]]
     for path in sorted(it for part in PARTS for it in (folder / part).rglob("*") if it.is_file()):
         told.append(f"{path.relative_to(folder)} {hashlib.sha256(without_comments(path)).hexdigest()}")
-    told += [digest_of_crate(top, below) for below in sorted(lines[crate].split(":")[1].split()) if below in lines]
     return hashlib.sha256("\n".join(told).encode()).hexdigest()
 
 
@@ -64,19 +53,36 @@ def forget() -> None:
     digest_of_crate.cache_clear()
 
 
+def top_of(edit: Path) -> Path:
+    return edit.parents[3]
+
+
+def name_of(edit: Path) -> str:
+    """Its crate and its name."""
+    return f"{edit.parents[1].name}/{edit.stem}"
+
+
 def digest_of(edit: Path) -> str:
     """What an edit is tried over."""
-    folder = edit.parent.parent
-    told = [RECORD.sub("", edit.read_text()), digest_of_crate(folder.parent.parent, folder.name), toolchain()]
+    told = [edit.read_text(), digest_of_crate(top_of(edit), edit.parents[1].name)]
     return hashlib.sha256("\n".join(told).encode()).hexdigest()[:32]
+
+
+def records(top: Path) -> dict[str, str]:
+    """The digest of each edit that was refused."""
+    lock = top / LOCK
+    return dict(line.split() for line in lock.read_text().splitlines()) if lock.exists() else {}
 
 
 def is_recorded(edit: Path) -> bool:
     """Whether it was refused over what stands now."""
-    found = RECORD.search(edit.read_text())
-    return found is not None and found[1] == digest_of(edit)
+    return records(top_of(edit)).get(name_of(edit)) == digest_of(edit)
 
 
 def record(edit: Path) -> None:
-    """Writes that its goal has refused it over what stands now."""
-    edit.write_text(f"# refused: {digest_of(edit)}\n" + RECORD.sub("", edit.read_text()))
+    """Writes that its goal has refused it over what stands now, and forgets the edits that are gone."""
+    top = top_of(edit)
+    with writing:
+        known = {**records(top), name_of(edit): digest_of(edit)}
+        there = {name_of(it) for it in top.glob("crates/*/must-fail/*.edit")}
+        (top / LOCK).write_text("".join(f"{name} {digest}\n" for name, digest in sorted(known.items()) if name in there))

@@ -40,6 +40,7 @@ install_below() {
     put 644 "$parts/wb.bash" "$place/share/bash-completion/completions/wb"
     put 644 "$parts/wb.bash" "$place/share/bash-completion/completions/wb-live"
     put 644 "$parts/LICENCE" "$place/share/doc/wb/LICENCE"
+    put 644 "$parts/THIRD-PARTY" "$place/share/doc/wb/THIRD-PARTY"
     tell_version >"$kept/version" && put 644 "$kept/version" "$place/share/doc/wb/BUILT"
     put_live "$place/share/wb"
     ln -sfn ../share/wb/wb-live "$place/bin/wb-live" || fail "$place/bin/wb-live can't be written"

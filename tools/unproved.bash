@@ -2,6 +2,7 @@
 # ./wb's `say` and `fail`.
 
 unproved=$kept/unproved/wb
+unproved_module=$kept/unproved/libwb.bc
 
 # whether the build that is not proved is of these sources and this toolchain
 is_unproved_current() {
@@ -41,6 +42,28 @@ build_unproved() {
     fi
     exec 8>&-
     is_unproved_current
+}
+
+# builds the LLVM module of the library that is not proved, if that is due
+build_unproved_module() {
+    local of
+    of="$(sources_of_library)"
+    [ "$(cat "$unproved_module.of" 2>/dev/null)" != "$of" ] || return 0
+    say "building a library that is not proved, which takes two minutes or so"
+    rm -f "$unproved_module.of"
+    mkdir -p "$kept/unproved" && "$top/tools/unproved" --library "$unproved_module" && echo "$of" >"$unproved_module.of"
+}
+
+# makes the library, or the page, that is not proved, in a folder
+make_unproved() {
+    check_place "--try $1" "$2"
+    [ "$1" = --library ] || check_page_needs
+    build_unproved_module || exit 5
+    case $1 in
+        --library) "$top/tools/library" unproved "$2" "$unproved_module" ;;
+        --page) "$top/web/build" unproved "$(readlink -f -- "$2")/page" "$unproved_module" && readlink -f -- "$2/page" ;;
+    esac || exit 5
+    say "NOT PROVED: what stands in $2 is of a build that no prover has seen"
 }
 
 # Optimises it, in the process group of the provers. If that fails, the session goes on with the slow one.

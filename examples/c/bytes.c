@@ -26,7 +26,7 @@ static uint8_t *put(uint8_t *at, uint64_t number, int bytes) {
     return at;
 }
 
-/* A drawing as docs/FORMAT.md has it: a line of a glyph on page 7/1. Its source and its number are those of no drawop: it gets others. */
+/* A drawing as docs/SCRIPTS.md has it: a line of a glyph on page 7/1. Its source and its number are those of no drawop: it gets others. */
 static size_t draft(uint8_t *to, uint64_t time, const uint16_t ends[4], char glyph) {
     uint8_t *at = to + 8;
     at = put(put(put(put(at, 0, 4), 7, 4), 1, 4), UINT32_MAX, 4);

@@ -109,7 +109,7 @@ class Over:
 
 
 class Nobody:
-    """A carrier without anyone, for a replay."""
+    """A carrier without anyone, for a replay and for a class of its own."""
 
     def __init__(self, where: str) -> None:
         self.where = where

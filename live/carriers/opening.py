@@ -3,7 +3,7 @@ from __future__ import annotations
 
 from typing import TYPE_CHECKING, Optional, Tuple
 
-from .carrier import Carrier
+from .carrier import Carrier, Nobody
 from .mqtt import GONE, BrokerSession, MqttCarrier
 from .sealed import Seal, Sealed
 from .udp import Group, Peers, Ports, UdpCarrier
@@ -30,6 +30,8 @@ def open_broker(options: Options, me: int, seal: Optional[Seal]) -> MqttCarrier:
 
 def open_network(options: Options, me: int) -> Tuple[Carrier, Optional[UdpCarrier], Optional[Seal]]:
     """The network of the words, for the member of this number; the carrier by UDP beside which streams can be had; and the key that seals both."""
+    if options.is_alone:
+        return Nobody("a class of its own"), None, None
     seal = Seal(options.key, options.session) if options.key else None
     udp = None if options.broker else open_udp(options)
     carrier: Carrier = udp or open_broker(options, me, seal)

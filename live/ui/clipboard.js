@@ -55,7 +55,7 @@ export function listenToClipboard(hand, place) {
   const isOurs = (event) => !/** @type {HTMLElement} */ (event.target).closest?.('input, textarea, select, dialog');
   /** @param {ClipboardEvent} event */
   const copy = (event) => {
-    const chosen = hand.selected();
+    const chosen = hand.parts.painter.isInk ? hand.chosen.shapes() : hand.selected();
     if (!isOurs(event) || !chosen.length) return false;
     event.preventDefault();
     event.clipboardData?.setData('text/plain', `${chosen.map(spell).join('\n')}\n`);

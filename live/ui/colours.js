@@ -6,6 +6,9 @@ const BY_DAY = { light: 0.46, strength: 0.15 }, BY_NIGHT = { light: 0.82, streng
 /** Numbers that follow one another are this many degrees apart: the golden angle, so that no two of a few are near. */
 const APART = 137.50776;
 
+/** Colours of members that are kept. */
+const MOST_KNOWN = 4096;
+
 /** @type {(part: number) => number} */
 const toScreen = (part) => (part <= 0.0031308 ? 12.92 * part : 1.055 * part ** (1 / 2.4) - 0.055);
 
@@ -23,10 +26,20 @@ function partsOf(light, strength, degrees) {
  * @type {(member: number) => number} */
 export const hueOf = (member) => (member * APART) % 360;
 
+/** @type {Map<string, string>} */
+const known = new Map();
+
 /** The colour of a member, as `#rrggbb`.
  * @type {(member: number, isNight: boolean) => string} */
 export function colourOf(member, isNight) {
-  const { light, strength } = isNight ? BY_NIGHT : BY_DAY;
+  const key = `${member} ${isNight}`, found = known.get(key) ?? tinted(member, isNight ? BY_NIGHT : BY_DAY);
+  if (known.size > MOST_KNOWN) known.clear();
+  known.set(key, found);
+  return found;
+}
+
+/** @type {(member: number, by: { light: number, strength: number }) => string} */
+function tinted(member, { light, strength }) {
   let parts = [0, 0, 0];
   for (let part = strength; part >= 0; part -= 0.01) {
     parts = partsOf(light, part, hueOf(member));
@@ -38,6 +51,9 @@ export function colourOf(member, isNight) {
 /** The colours of ink, by day and by night: ink, red, orange, yellow, green, teal, blue, violet, grey. */
 export const DAY = ['#1d2433', '#d3302f', '#c45a00', '#c98a00', '#14803c', '#0a7d7d', '#1d5fd6', '#7138d8', '#667085'];
 export const NIGHT = ['#eef1f6', '#ff8f87', '#ffb066', '#ffd95a', '#76dd9f', '#62d9d6', '#8ab6ff', '#c8aaff', '#a8b0bd'];
+
+/** The colours of a page beside those of ink, where it is saved or printed: on white, whatever the screen has. */
+export const ON_WHITE = { paper: '#ffffff', ink: DAY[0], accent: DAY[6] };
 
 /** The same of the highlighter, of notes, and of what is tinted. */
 export const BRIGHT = ['#9aa4b5', '#ff6b62', '#ff9f43', '#ffd60a', '#4cd07d', '#35d0cc', '#5b9dff', '#a67bff', '#b6bcc8'];

@@ -15,10 +15,10 @@ export function say(text) {
 
 let toldTimer = 0;
 
-/** Shows what went wrong for some seconds.
- * @param {string} fault */
-export function tell(fault) {
-  [$('told').textContent, $('told').hidden] = [fault, false];
+/** Shows for some seconds what went wrong, or well.
+ * @param {string} text @param {boolean} [isWell] */
+export function tell(text, isWell = false) {
+  [$('told').textContent, $('told').hidden, $('told').className] = [text, false, isWell ? 'well' : ''];
   clearTimeout(toldTimer);
   toldTimer = setTimeout(() => { $('told').hidden = true; }, 5000);
 }

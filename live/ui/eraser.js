@@ -14,11 +14,9 @@ import { placed, writeStroke } from './inkwriting.js';
 /** The items that were touched, and which parts of each, by the places of their first points.
  * @typedef {Map<Item, Set<number>>} Touched */
 
-/** Points of the screen that the eraser reaches. */
-const REACH = 7;
-
-/** @type {(view: import('./view.js').View) => number} in units */
-export const reachOf = (view) => REACH * (CELL_WIDE / view.wide);
+/** How far the hand reaches, in units.
+ * @type {(view: import('./view.js').View) => number} */
+export const reachOf = (view) => view.reach * (CELL_WIDE / view.wide);
 
 /** Takes note of what the eraser touches between two points.
  * @type {(gesture: Gesture, hand: Hand, from: Point, to: Point) => void} */
@@ -54,7 +52,7 @@ export function restOf(item, parts, hand) {
 
 /** The colour of an item for another member to draw in: of another's own colour the one that is nearest to it.
  * @type {(item: Item, hand: Hand) => number} */
-function colourFor({ colour, source }, { parts: { painter, session, notes } }) {
+export function colourFor({ colour, source }, { parts: { painter, session, notes } }) {
   if (colour !== OWN || source === session.hello.me) return colour;
   const chosen = notes.told.colours.get(source), tint = painter.tintOf(source);
   const far = (/** @type {string} */ other) => [1, 3, 5].reduce((sum, at) => sum + (parseInt(tint.slice(at, at + 2), 16) - parseInt(other.slice(at, at + 2), 16)) ** 2, 0);

@@ -1,12 +1,12 @@
-/** What is saved and opened: a page, all pages, the record; a text as drawings. And the pages at a glance. */
+/** What is saved and opened: a page, all pages, the record; a text as drawings. */
 import { insert } from './clipboard.js';
-import { $, make, tell } from './dom.js';
-import { extentOf, htmlOf, laidOut, runsOf, svgOf, textOf } from './exports.js';
+import { $, tell } from './dom.js';
+import { extentOf, htmlOf, runsOf, svgOf, textOf } from './exports.js';
 import { itemsOf } from './inkitems.js';
-import { boxAboutAll, inOrder } from './inkpaint.js';
+import { InkPaint, boxAboutAll, inOrder } from './inkpaint.js';
 import { CELL_WIDE } from './inksigns.js';
 import { svgOfInk } from './inksvg.js';
-import { NOTES } from './notes.js';
+import { Printing } from './printing.js';
 
 /** @typedef {import('./types.js').Board} Board */
 /** @typedef {import('./whiteboard.js').Whiteboard} Whiteboard */
@@ -17,9 +17,6 @@ const WIDE = 9, HIGH = 17, MOST_SIDE = 16_000, MOST_AREA = 64_000_000;
 /** Of a picture of ink: points of a cell, the points of a side at most, and those about it. */
 const INK = { wide: 20, most: 8_000, about: 20 };
 
-/** The cells of a page at a glance, and points of each; and of ink the points of it all. */
-const GLANCE = { columns: 120, rows: 60, wide: 1.5, high: 2 }, GLANCE_OF_INK = { width: 416, height: 260 };
-
 /** Bytes of a text that is opened. */
 const MOST_BYTES = 1_000_000;
 
@@ -27,11 +24,15 @@ export class Files {
   /** @param {Whiteboard} board */
   constructor(board) {
     this.board = board;
+    /** What is saved and printed is painted by day. */
+    this.day = new InkPaint(board.painter.byDay);
+    this.printing = new Printing(this);
     /** @type {Record<string, () => void>} */
     const acts = { 'save-text': () => this.save('txt', 'text/plain', textOf(this.shown)),
       'save-svg': () => this.save('svg', 'image/svg+xml', this.svg(this.shown)), 'save-png': () => this.savePng(),
-      'save-html': () => this.saveAll(), 'save-record': () => this.saveRecord(), 'print-page': () => print(), 'open-text': () => $('opened').click() };
-    for (const [id, act] of Object.entries(acts)) $(id).addEventListener('click', () => { $('files').close(); act(); });
+      'save-html': () => this.saveAll(), 'save-record': () => this.saveRecord(), 'open-text': () => $('opened').click() };
+    document.querySelectorAll('#saving button').forEach((button) => button.addEventListener('click', () => $('files').close()));
+    for (const [id, act] of Object.entries(acts)) $(id).addEventListener('click', act);
     $('save-record').hidden = !board.session.member.record;
     $('opened').addEventListener('change', () => this.open($('opened').files[0]));
   }
@@ -45,11 +46,19 @@ export class Files {
     return this.board.session.titleOf(page);
   }
 
-  /** @param {Board} board */
+  /** A page as SVG, by day.
+   * @param {Board} board */
   svg(board) {
-    const { painter } = this.board, title = this.titleOf(board.page);
-    if (painter.isInk) return svgOfInk(itemsOf(board.drawops), painter.ink.paints, painter.colours, title);
-    return svgOf(board, (source) => (source < 0 ? painter.colours.ink : painter.tintOf(source)), painter.colours.paper, title);
+    const title = this.titleOf(board.page);
+    if (this.board.painter.isInk) return svgOfInk(itemsOf(board.drawops), this.day, title);
+    return svgOf(board, (source) => this.tintOf(source), this.day.shades.colours.paper, title);
+  }
+
+  /** The colour of a cell on white.
+   * @param {number} source below 0 for none */
+  tintOf(source) {
+    const { colours, tintOf } = this.day.shades;
+    return source < 0 ? colours.ink : tintOf(source);
   }
 
   /** Hands a file to the user.
@@ -60,24 +69,24 @@ export class Files {
     setTimeout(() => URL.revokeObjectURL(address), 60_000);
   }
 
-  /** A canvas with the paper's colour.
-   * @param {HTMLCanvasElement} canvas @param {number} width @param {number} height */
-  sheetOf(canvas, width, height) {
+  /** A canvas with the paper's colour, which is the screen's if no other is given.
+   * @param {HTMLCanvasElement} canvas @param {number} width @param {number} height @param {string} [paper] */
+  sheetOf(canvas, width, height, paper = this.board.painter.colours.paper) {
     Object.assign(canvas, { width, height });
     const brush = /** @type {CanvasRenderingContext2D} */ (canvas.getContext('2d'));
-    brush.fillStyle = this.board.painter.colours.paper;
+    brush.fillStyle = paper;
     brush.fillRect(0, 0, width, height);
     return brush;
   }
 
   /** Paints a page as ink in the middle of a canvas, as large as it fits, up to a number of points a cell.
-   * @param {CanvasRenderingContext2D} brush @param {Board} board @param {number} most */
-  paintInk(brush, board, most) {
+   * @param {CanvasRenderingContext2D} brush @param {Board} board @param {number} most @param {InkPaint} [paints] */
+  paintInk(brush, board, most, paints = this.board.painter.ink.paints) {
     const items = itemsOf(board.drawops), box = boxAboutAll(items), { width, height } = brush.canvas;
     if (!box) return;
     const { x0, y0, x1, y1 } = box, scale = Math.min(most / CELL_WIDE, (width - INK.about) / (x1 - x0), (height - INK.about) / (y1 - y0));
     brush.setTransform(scale, 0, 0, scale, width / 2 - ((x0 + x1) / 2) * scale, height / 2 - ((y0 + y1) / 2) * scale);
-    inOrder(items).forEach((item) => this.board.painter.ink.paints.paint(brush, item, { wide: scale * CELL_WIDE }));
+    inOrder(items).forEach((item) => paints.paint(brush, item, { wide: scale * CELL_WIDE }));
   }
 
   savePng() {
@@ -92,7 +101,7 @@ export class Files {
   pngOfInk(canvas) {
     const { x0, y0, x1, y1 } = boxAboutAll(this.board.ink.items) ?? { x0: 0, y0: 0, x1: 10 * CELL_WIDE, y1: 8 * CELL_WIDE };
     const scale = Math.min(INK.wide / CELL_WIDE, INK.most / (x1 - x0), INK.most / (y1 - y0)), side = (/** @type {number} */ units) => Math.ceil(units * scale) + 2 * INK.about;
-    this.paintInk(this.sheetOf(canvas, side(x1 - x0), side(y1 - y0)), this.shown, INK.wide);
+    this.paintInk(this.sheetOf(canvas, side(x1 - x0), side(y1 - y0), this.day.shades.colours.paper), this.shown, INK.wide, this.day);
   }
 
   /** Whether the page was not too large.
@@ -100,10 +109,10 @@ export class Files {
   pngOfCells(canvas) {
     const extent = extentOf(this.shown), [width, height] = [extent.columns * WIDE, extent.rows * HIGH], { painter, layout } = this.board;
     if (Math.max(width, height) > MOST_SIDE || width * height > MOST_AREA) return false;
-    const brush = this.sheetOf(canvas, width, height);
+    const brush = this.sheetOf(canvas, width, height, this.day.shades.colours.paper);
     painter.setFont(brush, 15);
     for (const { x, y, source, text } of runsOf(layout, extent)) {
-      brush.fillStyle = source < 0 ? painter.colours.ink : painter.tintOf(source);
+      brush.fillStyle = this.tintOf(source);
       [...text].forEach((glyph, i) => brush.fillText(glyph, (x - extent.left + i + 0.5) * WIDE, (y - extent.top + 0.5) * HIGH));
     }
     return true;
@@ -135,37 +144,5 @@ export class Files {
     if (file.size > MOST_BYTES) tell(`A text of over ${MOST_BYTES / 1000} kilobytes is not opened.`);
     else if (/^(image|audio|video)\//.test(file.type)) tell('A page has no pictures: strokes, shapes and letters only.');
     else insert(this.board.hand, await file.text(), this.board.place());
-  }
-
-  // ---- pages at a glance
-
-  async showAll() {
-    $('overview').showModal();
-    const boards = await this.boards();
-    $('glances').replaceChildren(...boards.map((board) => this.glance(board)));
-  }
-
-  /** A small picture of a page, which turns to it.
-   * @param {Board} board */
-  glance(board) {
-    const button = make('button'), canvas = make('canvas'), { painter, session } = this.board;
-    if (painter.isInk) this.paintInk(this.sheetOf(canvas, GLANCE_OF_INK.width, GLANCE_OF_INK.height), board, 10);
-    else this.paintCells(canvas, board);
-    button.append(canvas, make('span', this.titleOf(board.page)));
-    button.setAttribute('aria-current', String(board.page === session.board.page));
-    button.addEventListener('click', () => {
-      $('overview').close();
-      session.goToPage(board.page);
-    });
-    return button;
-  }
-
-  /** @param {HTMLCanvasElement} canvas @param {Board} board */
-  paintCells(canvas, board) {
-    const { painter } = this.board, { columns, rows, wide, high } = GLANCE, brush = this.sheetOf(canvas, columns * wide, rows * high);
-    for (const { x, y, source, text } of runsOf(laidOut(board), { left: 0, top: 0, columns, rows })) {
-      brush.fillStyle = source < 0 ? painter.colours.ink : painter.tintOf(source);
-      brush.fillRect(x * wide, y * high, text.length * wide, high - 0.5);
-    }
   }
 }

@@ -1,5 +1,6 @@
 /** What the user has in hand: the tool, the glyph, what is begun, what is selected, and where the pointer is. */
-import { boxAbout, kept, nameOf, orderOf, shifted } from './cells.js';
+import { boxAbout, kept, orderOf, shifted } from './cells.js';
+import { Chosen } from './chosen.js';
 import { $, say, tell } from './dom.js';
 import { inkOf } from './ink.js';
 import { CELL_HIGH, CELL_WIDE } from './inksigns.js';
@@ -19,8 +20,8 @@ import { TOOLS } from './tools.js';
  * @type {(cell: Cell) => Point} */
 export const middleOf = ({ x, y }) => ({ x: (x + 0.5) * CELL_WIDE, y: (y + 0.5) * CELL_HIGH });
 
-/** How a gesture begins or goes on: with Shift, and by a pen that tells its pressure.
- * @typedef {{ isShifted?: boolean, isPressed?: boolean }} How */
+/** How a gesture begins or goes on: with Shift, by a pen that tells its pressure, and with another tool than the one that is chosen.
+ * @typedef {{ isShifted?: boolean, isPressed?: boolean, tool?: string }} How */
 
 export class Hand {
   /** @param {import('./whiteboard.js').Whiteboard} board */
@@ -42,6 +43,7 @@ export class Hand {
     /** The names of the drawings that are selected.
      * @type {Set<string>} */
     this.selection = new Set();
+    this.chosen = new Chosen(this);
     /** The number of the place that an ink was given last. */
     this.place = 0;
     this.session.on('board', (_, { isTurned }) => isTurned && this.selection.clear());
@@ -65,16 +67,16 @@ export class Hand {
   }
 
   /** An ink as a drawing, at a place of the page that no other has, as far as there are.
-   * @param {string} text @returns {Shape} */
-  placed(text) {
+   * @param {string} text @param {boolean} [isAgain] whether it stands for others that are deleted then @returns {Shape} */
+  placed(text, isAgain = false) {
     this.place = Math.max(this.place, this.session.shown.size + this.session.erased.size) + 1;
-    return placed(text, this.place);
+    return placed(text, this.place, isAgain);
   }
 
   /** The shapes that would be drawn now.
    * @returns {Shape[]} */
   ghosts() {
-    return (this.gesture && this.toolOf(this.gesture.tool).shapes?.(this.gesture, this)) ?? [];
+    return (this.gesture && this.toolOf(this.gesture.tool).shapes?.(this.gesture, this)) ?? this.parts.changing.ghosts();
   }
 
   /** The drawings that would be deleted now.
@@ -97,16 +99,16 @@ export class Hand {
     return /** @type {Drawing[]} */ (found).sort(orderOf);
   }
 
-  /** The items of which drawings are selected.
+  /** What is selected, as items: of those of which some strokes are selected these alone.
    * @returns {Item[]} */
   chosenItems() {
-    const { kept } = this.parts.ink, found = this.selected().map(({ source, seq }) => kept.itemOf(source, seq)).filter((item) => item !== undefined);
-    return [...new Set(/** @type {Item[]} */ (found))];
+    return this.chosen.items();
   }
 
   /** @param {string} tool */
   choose(tool) {
     this.parts.pen.flush();
+    this.parts.changing.settle();
     this.tool = tool;
     this.gesture = null;
     this.selection.clear();
@@ -115,6 +117,7 @@ export class Hand {
     }
     document.body.dataset.hand = tool;
     this.parts.style.show();
+    this.parts.changing.show();
     say(`${tool} chosen`);
     this.changed();
   }
@@ -132,8 +135,9 @@ export class Hand {
   /** @param {Cell} cell @param {Point} [point] @param {How} [how] with Shift it is added to a selection */
   begin(cell, point, how = {}) {
     this.parts.sight.stay();
-    this.gesture = Object.assign(this.gestureAt(cell, point), { isShifted: Boolean(how.isShifted) });
-    this.toolOf(this.tool).begin?.(this.gesture, this, how);
+    this.parts.changing.settle();
+    this.gesture = Object.assign(this.gestureAt(cell, point), { isShifted: Boolean(how.isShifted), tool: how.tool ?? this.tool });
+    this.toolOf(this.gesture.tool).begin?.(this.gesture, this, how);
     this.changed();
   }
 
@@ -169,23 +173,25 @@ export class Hand {
   }
 
   /** One step that draws and then deletes, so that nothing is lost on the way.
-   * @param {Shape[]} shapes @param {Drawing[]} doomed */
-  change(shapes, doomed) {
+   * @param {Shape[]} shapes @param {Drawing[]} doomed @param {{ page?: string, isAgain?: boolean }} [how] on which page, if not on the one in view;
+   *   and whether these are drawn in the place of those: nothing is erased */
+  change(shapes, doomed, how = {}) {
+    const { page, isAgain = false } = how;
     if (shapes.length + doomed.length === 0) return null;
     if (shapes.length > MOST_AT_ONCE) return tell(`Not drawn: over ${MOST_AT_ONCE} drawings at once.`), null;
-    const step = this.steps.begin();
-    shapes.forEach((shape) => step.draw(shape.op === 'text' && inkOf(shape) ? this.placed(shape.text) : shape));
+    const step = this.steps.begin(page);
+    shapes.forEach((shape) => step.draw(shape.op === 'text' && inkOf(shape) ? this.placed(shape.text, isAgain) : shape));
     doomed.forEach((drawing) => step.hide(drawing));
     return step;
   }
 
-  /** Draws shapes in the place of drawings, and selects them.
-   * @param {Drawing[]} old @param {Shape[]} shapes */
-  async replace(old, shapes) {
-    const step = this.change(shapes, old);
+  /** Draws shapes in the place of drawings, and what is left of these, and selects the shapes.
+   * @param {Drawing[]} old @param {Shape[]} shapes @param {Shape[]} [rest] */
+  async replace(old, shapes, rest = []) {
+    const step = this.change([...rest, ...shapes], old, { isAgain: old.length > 0 });
     this.selection.clear();
-    if (step && this.tool === 'select') (await step.names()).forEach((name) => this.selection.add(name));
-    this.changed();
+    if (step && this.tool === 'select') (await step.names()).slice(rest.length).forEach((name) => this.selection.add(name));
+    this.chose();
   }
 
   /** @param {Cell} cell */
@@ -196,14 +202,15 @@ export class Hand {
 
   /** Deletes what is selected. */
   deleteSelected() {
-    const doomed = this.selected();
+    const { isInk } = this.parts.painter, doomed = isInk ? this.chosen.drawings() : this.selected(), rest = isInk ? this.chosen.rest() : [];
     this.selection.clear();
-    this.change([], doomed);
-    this.changed();
+    this.change(rest, doomed);
+    this.chose();
   }
 
   selectAll() {
     this.choose('select');
+    this.chosen.strokes.clear();
     [...this.session.shown.keys()].forEach((name) => this.selection.add(name));
     this.tellSelection();
   }
@@ -211,6 +218,13 @@ export class Hand {
   tellSelection() {
     const count = this.parts.painter.isInk ? this.chosenItems().length : this.selected().length;
     say(count === 1 ? 'one drawing selected' : `${count} drawings selected`);
+    this.chose();
+  }
+
+  /** Something else is selected. */
+  chose() {
+    this.parts.style.show();
+    this.parts.changing.show();
     this.changed();
   }
 

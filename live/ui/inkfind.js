@@ -12,9 +12,6 @@ import { WIDTHS } from './inksigns.js';
 /** Within this many units of its border a frame leaves a mark, and of its line a line, with its head. */
 const BORDER = 200, BESIDE = 400;
 
-/** Items that lie up to this many units beyond a rectangle are within it still. */
-const BEYOND = 40;
-
 /** @type {(a: Box, b: Box) => boolean} */
 const overlap = (a, b) => a.x0 <= b.x1 && a.x1 >= b.x0 && a.y0 <= b.y1 && a.y1 >= b.y0;
 
@@ -34,17 +31,6 @@ export function meets(item, box) {
 /** The items that can leave a mark in a box, in the order of painting.
  * @type {(items: Item[], box: Box) => Item[]} */
 export const itemsIn = (items, box) => items.filter((item) => meets(item, box));
-
-/** The items that lie in a rectangle as a whole.
- * @type {(items: Item[], from: Point, to: Point) => Item[]} */
-export function itemsInside(items, from, to) {
-  const [left, right] = [Math.min(from.x, to.x) - BEYOND, Math.max(from.x, to.x) + BEYOND];
-  const [top, bottom] = [Math.min(from.y, to.y) - BEYOND, Math.max(from.y, to.y) + BEYOND];
-  return items.filter((item) => {
-    const { x0, y0, x1, y1 } = boxOf(item);
-    return x0 >= left && y0 >= top && x1 <= right && y1 <= bottom;
-  });
-}
 
 /** The parts of an item that a point is near to, by the places of their first points: of a stroke from lift to lift, else the whole.
  * @type {(item: Item, at: Point, near: number) => number[]} */

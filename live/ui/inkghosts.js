@@ -1,9 +1,9 @@
 /** What is in hand, over the ink of the page: what is selected, touched, let go and not yet held, and begun. */
 import { reachOf } from './eraser.js';
 import { itemsOf } from './inkitems.js';
-import { boxOf } from './inkpaint.js';
+import { closeBoxOf } from './inkpaint.js';
 import { CELL_WIDE } from './inksigns.js';
-import { gripsOf } from './resizing.js';
+import { frameAbout, gripsOf } from './resizing.js';
 
 /** @typedef {import('./types.js').Shape} Shape */
 /** @typedef {import('./types.js').Drawing} Drawing */
@@ -37,7 +37,7 @@ export class InkGhosts {
     this.paintShapes(hand.ghosts(), me);
     if (gesture?.tool === 'select' && !gesture.isMove) this.paintBox(gesture.points[0], gesture.points[gesture.points.length - 1]);
     if (hand.cursor.on) this.painter.cells.paintPointer();
-    else if (hand.point && hand.tool === 'erase') this.paintRubber(hand.point);
+    else if (hand.point && (gesture?.tool ?? hand.tool) === 'erase') this.paintRubber(hand.point);
   }
 
   /** Shapes that are not held yet, as they will be.
@@ -61,18 +61,27 @@ export class InkGhosts {
     brush.globalAlpha = 1;
   }
 
-  /** A frame about each item that is selected, and the corners that make them larger or smaller.
+  /** What is selected is coloured, with one frame about it; its corners make it larger or smaller, and the grip above turns it.
    * @param {Item[]} items */
   paintChosen(items) {
-    const { colours } = this.painter, { point } = this, side = GRIP * point;
+    const { colours } = this.painter, { point } = this, side = GRIP * point, frame = frameAbout(items);
+    if (!frame) return;
+    const { x0, y0, x1, y1 } = frame;
     this.painter.inUnits((brush) => {
       brush.strokeStyle = colours.accent;
       brush.fillStyle = colours.paper;
+      brush.globalAlpha = 0.35;
+      brush.lineWidth = point;
+      for (const box of items.length > 1 ? items.map(closeBoxOf) : []) brush.strokeRect(box.x0, box.y0, box.x1 - box.x0, box.y1 - box.y0);
+      brush.globalAlpha = 1;
       brush.lineWidth = 1.5 * point;
-      for (const { x0, y0, x1, y1 } of items.map(boxOf)) brush.strokeRect(x0, y0, x1 - x0, y1 - y0);
-      for (const { at: { x, y } } of gripsOf(items)) {
-        brush.fillRect(x - side / 2, y - side / 2, side, side);
-        brush.strokeRect(x - side / 2, y - side / 2, side, side);
+      brush.strokeRect(x0, y0, x1 - x0, y1 - y0);
+      for (const { at: { x, y }, isTurn } of gripsOf(items, point)) {
+        brush.beginPath();
+        if (isTurn) brush.arc(x, y, side / 2, 0, 2 * Math.PI);
+        else brush.rect(x - side / 2, y - side / 2, side, side);
+        brush.fill();
+        brush.stroke();
       }
     });
   }

@@ -13,6 +13,9 @@ import { CELL_WIDE, OWN, WIDTHS } from './inksigns.js';
  * what is there for a highlighter.
  * @typedef {{ wide: number, over?: string, isPicture?: boolean }} Paint */
 
+/** How a page is coloured: by day or by night, its own colours, and those of members.
+ * @typedef {{ isNight: () => boolean, colours: Record<string, string>, tintOf: (source: number) => string }} Shades */
+
 /** How many times as wide as a stroke a highlighter is, and how much it lets through. */
 const BROAD = 2.4, THIN = 0.45;
 
@@ -52,6 +55,13 @@ function boxMade(item) {
   return boxAbout(points, by);
 }
 
+/** The box about what an item leaves on the paper: of writing as wide as its line, where the box for painting is larger.
+ * @type {(item: Item) => Box} */
+export function closeBoxOf(item) {
+  const { kind, points, width } = item, isThin = isStroke(kind) || kind === 'l' || kind === 'line';
+  return isThin ? boxAbout(points, (WIDTHS[width] * (kind === 'h' ? BROAD : 1)) / 2) : boxOf(item);
+}
+
 /** The box about points, and so far about it.
  * @type {(points: Point[], by: number) => Box} */
 export function boxAbout(points, by) {
@@ -66,9 +76,9 @@ export function boxAbout(points, by) {
 }
 
 /** The box about all items, or null where there are none.
- * @type {(items: Item[]) => Box | null} */
-export function boxAboutAll(items) {
-  return items.length ? boxAbout(items.map(boxOf).flatMap(({ x0, y0, x1, y1 }) => [{ x: x0, y: y0 }, { x: x1, y: y1 }]), 0) : null;
+ * @type {(items: Item[], box?: (item: Item) => Box) => Box | null} */
+export function boxAboutAll(items, box = boxOf) {
+  return items.length ? boxAbout(items.map(box).flatMap(({ x0, y0, x1, y1 }) => [{ x: x0, y: y0 }, { x: x1, y: y1 }]), 0) : null;
 }
 
 /** Items as they are painted: those of the highlighter under all others.
@@ -76,17 +86,17 @@ export function boxAboutAll(items) {
 export const inOrder = (items) => [...items.filter(({ kind }) => kind === 'h'), ...items.filter(({ kind }) => kind !== 'h')];
 
 export class InkPaint {
-  /** @param {import('./painter.js').Painter} painter */
-  constructor(painter) {
-    this.painter = painter;
+  /** @param {Shades} shades */
+  constructor(shades) {
+    this.shades = shades;
   }
 
-  /** The colour of an item on the sheet.
+  /** The colour of an item.
    * @param {Item} item */
   colourOf({ colour, source, kind }) {
-    if (kind === 'k') return this.painter.colours.accent;
-    if (colour === OWN) return this.painter.tintOf(source);
-    return (kind === 'h' ? BRIGHT : this.painter.isNight() ? NIGHT : DAY)[colour];
+    if (kind === 'k') return this.shades.colours.accent;
+    if (colour === OWN) return this.shades.tintOf(source);
+    return (kind === 'h' ? BRIGHT : this.shades.isNight() ? NIGHT : DAY)[colour];
   }
 
   /** @param {CanvasRenderingContext2D} g @param {Item} item @param {Paint} how */
@@ -105,7 +115,7 @@ export class InkPaint {
   /** A highlighter lies under all other ink: in a picture under what is there, else so that what is there stays dark, or light.
    * @param {CanvasRenderingContext2D} g @param {Item} item @param {Paint} how */
   paintBroad(g, item, { over, isPicture }) {
-    g.globalCompositeOperation = over ? 'source-over' : isPicture ? 'destination-over' : this.painter.isNight() ? 'lighten' : 'multiply';
+    g.globalCompositeOperation = over ? 'source-over' : isPicture ? 'destination-over' : this.shades.isNight() ? 'lighten' : 'multiply';
     g.globalAlpha = over ? 0.6 : THIN;
     g.lineWidth = WIDTHS[item.width] * BROAD;
     strokeAll(g, item);
@@ -117,11 +127,11 @@ export class InkPaint {
   paintClosed(g, item, colour) {
     const [path] = pathsOf(item), isNote = item.kind === 'n', fill = isNote ? 1 : item.flag & 3;
     if (isNote) {
-      g.fillStyle = this.painter.colours.paper;
+      g.fillStyle = this.shades.colours.paper;
       g.fill(path);
     }
     g.fillStyle = fill === 2 ? colour : BRIGHT[item.colour] ?? colour;
-    g.globalAlpha = isNote ? NOTE[this.painter.isNight() ? 'night' : 'day'] : fill === 2 ? 1 : TINT;
+    g.globalAlpha = isNote ? NOTE[this.shades.isNight() ? 'night' : 'day'] : fill === 2 ? 1 : TINT;
     if (fill) g.fill(path);
     g.globalAlpha = 1;
     if (!isNote) strokeAll(g, item);
@@ -129,7 +139,7 @@ export class InkPaint {
 
   /** @param {CanvasRenderingContext2D} g @param {Item} item @param {string} colour */
   paintLetters(g, item, colour) {
-    const { colours } = this.painter, { font, size, x, y, isMiddle } = standOf(item), isFull = isClosed(item.kind) && item.kind !== 'n' && (item.flag & 3) === 2;
+    const { colours } = this.shades, { font, size, x, y, isMiddle } = standOf(item), isFull = isClosed(item.kind) && item.kind !== 'n' && (item.flag & 3) === 2;
     g.font = fontOf(font, size);
     g.fillStyle = item.kind === 'n' ? colours.ink : isFull ? colours.paper : colour;
     g.textAlign = isMiddle ? 'center' : 'left';

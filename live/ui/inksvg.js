@@ -34,15 +34,15 @@ function part(item, colour, colours) {
   const words = item.letters ? letters(item, isNote ? colours.ink : fill === 2 ? colours.paper : colour) : '';
   if (isLetters(item)) return words;
   if (kind === 'v') return pressed(item, colour);
-  const inside = fill ? ` fill="${fill === 2 ? colour : BRIGHT[item.colour] ?? colour}" fill-opacity="${isNote ? 0.42 : fill === 2 ? 1 : 0.22}"` : '';
-  return `<path d="${wayOf(item)}" stroke="${isNote ? 'none' : colour}" stroke-width="${WIDTHS[width] * (kind === 'h' ? 2.4 : 1)}"`
+  const under = isNote ? `<path d="${wayOf(item)}" fill="${colours.paper}"/>` : '', inside = fill ? ` fill="${fill === 2 ? colour : BRIGHT[item.colour] ?? colour}" fill-opacity="${isNote ? 0.42 : fill === 2 ? 1 : 0.22}"` : '';
+  return `${under}<path d="${wayOf(item)}" stroke="${isNote ? 'none' : colour}" stroke-width="${WIDTHS[width] * (kind === 'h' ? 2.4 : 1)}"`
     + `${kind === 'h' ? ' opacity=".45"' : ''}${dashes && ` stroke-dasharray="${dashes}"`}${inside}/>${words}`;
 }
 
-/** @type {(items: Item[], paints: { colourOf: (item: Item) => string }, colours: Colours, title: string) => string} */
-export function svgOfInk(items, paints, colours, title) {
+/** @type {(items: Item[], paints: { colourOf: (item: Item) => string, shades: { colours: Colours } }, title: string) => string} */
+export function svgOfInk(items, paints, title) {
   const { x0, y0, x1, y1 } = boxAboutAll(items) ?? { x0: 0, y0: 0, x1: 10 * CELL_WIDE, y1: 10 * CELL_WIDE }, [left, top] = [Math.floor(x0 - ABOUT), Math.floor(y0 - ABOUT)];
-  const [wide, high] = [Math.ceil(x1 + ABOUT) - left, Math.ceil(y1 + ABOUT) - top], parts = inOrder(items).map((item) => part(item, paints.colourOf(item), colours));
+  const [wide, high] = [Math.ceil(x1 + ABOUT) - left, Math.ceil(y1 + ABOUT) - top], { colours } = paints.shades, parts = inOrder(items).map((item) => part(item, paints.colourOf(item), colours));
   return `<svg xmlns="http://www.w3.org/2000/svg" width="${Math.round(wide / POINT)}" height="${Math.round(high / POINT)}" viewBox="${left} ${top} ${wide} ${high}" `
     + `fill="none" stroke-linecap="round" stroke-linejoin="round" font-family="sans-serif" font-size="${SIZES[2]}" role="img"><title>${escaped(title)}</title>`
     + `<rect x="${left}" y="${top}" width="100%" height="100%" fill="${colours.paper}"/>\n${parts.join('\n')}\n</svg>\n`;

@@ -1,8 +1,9 @@
 /** The tools of a page that is shown as ink. */
-import { kept, nameOf, shifted } from './cells.js';
+import { kept, shifted } from './cells.js';
+import { partsInside } from './chosen.js';
 import { reachOf, restOf, rub } from './eraser.js';
 import { inkOf } from './ink.js';
-import { itemAt, itemsInside } from './inkfind.js';
+import { itemAt, partsAt } from './inkfind.js';
 import { itemsOf } from './inkitems.js';
 import { boxAboutAll } from './inkpaint.js';
 import { CELL_HIGH, CELL_WIDE, PAGE_HIGH, PAGE_WIDE } from './inksigns.js';
@@ -88,7 +89,7 @@ function carried(shape, dx, dy) {
 
 /** Shapes so far on as the page goes.
  * @type {(shapes: Shape[], dx: number, dy: number) => Shape[]} */
-function carriedBy(shapes, dx, dy) {
+export function carriedBy(shapes, dx, dy) {
   const inks = shapes.map(inkOf).filter((ink) => ink !== null), [across, down] = keptInks(/** @type {import('./ink.js').Ink[]} */ (inks), dx, dy);
   return shapes.map((shape) => carried(shape, across, down));
 }
@@ -105,31 +106,33 @@ export function carriedAll(shapes, at) {
 function movedThere({ points, isMove, isShifted, grip }, hand) {
   const [from] = points, to = points[points.length - 1], [dx, dy] = [to.x - from.x, to.y - from.y], items = grip ? hand.chosenItems() : [];
   if (!isMove || Math.hypot(dx, dy) < STILL) return [];
-  return grip ? stretched(items, stretchOf(grip, items, { x: dx, y: dy }, isShifted)) : carriedBy(hand.selected(), dx, dy);
+  return grip ? stretched(items, stretchOf(grip, items, { x: dx, y: dy }, isShifted)) : carriedBy(hand.chosen.shapes(), dx, dy);
 }
 
 /** Takes a corner of what is selected, or the item under the hand, or begins a rectangle.
  * @type {(gesture: Gesture, hand: Hand, how: { isShifted?: boolean }) => void} */
 function take(gesture, hand, { isShifted }) {
-  const { ink, view } = hand.parts, grip = gripAt(hand.chosenItems(), gesture.points[0], CELL_WIDE / view.wide);
+  const { ink, view } = hand.parts, [at] = gesture.points, grip = gripAt(hand.chosenItems(), at, CELL_WIDE / view.wide);
   if (grip) {
     Object.assign(gesture, { grip, isMove: true });
     return;
   }
-  const item = itemAt(ink.items, gesture.points[0], reachOf(view)), names = item ? item.drawings.map(nameOf) : [];
-  const isTaken = names.length > 0 && hand.selection.has(names[0]);
+  const item = itemAt(ink.items, at, reachOf(view)), isTaken = item !== undefined && hand.chosen.has(item, partsAt(item, at, reachOf(view)));
   if (!isTaken && !isShifted) hand.selection.clear();
-  names.forEach((name) => (isTaken && isShifted ? hand.selection.delete(name) : hand.selection.add(name)));
+  if (item && isTaken && isShifted) hand.chosen.remove(item);
+  else if (item && !isTaken) hand.chosen.add(item);
   gesture.isMove = Boolean(item);
 }
 
 /** Draws the selection where it was moved to, and deletes it where it was; or selects what lies in the rectangle.
  * @type {(gesture: Gesture, hand: Hand) => void} */
 function endTaking(gesture, hand) {
-  const shapes = movedThere(gesture, hand), old = hand.selected(), [from] = gesture.points, to = gesture.points[gesture.points.length - 1];
-  const inside = gesture.isMove ? [] : itemsInside(hand.parts.ink.items, from, to);
-  inside.forEach(({ drawings }) => drawings.forEach((drawing) => hand.selection.add(nameOf(drawing))));
-  if (shapes.length) hand.replace(old, shapes);
+  const shapes = movedThere(gesture, hand), [from] = gesture.points, to = gesture.points[gesture.points.length - 1];
+  for (const item of gesture.isMove ? [] : hand.parts.ink.items) {
+    const parts = partsInside(item, from, to);
+    if (parts.size) hand.chosen.add(item, parts);
+  }
+  if (shapes.length) hand.replace(hand.chosen.drawings(), shapes, hand.chosen.rest());
   else hand.tellSelection();
 }
 

@@ -1,5 +1,5 @@
 /** Ink as texts: strokes, shapes and letters, the same ink elsewhere, and where a text stands (docs/INK.md, "Writing"). */
-import { FLAGS, GOING_ON, isStroke, readInk } from './ink.js';
+import { FLAGS, GOING_ON, isClosed, isStroke, readInk } from './ink.js';
 import { along, bend, off } from './inkcurves.js';
 import { inTexts, isAddress, writeLetters } from './inkletters.js';
 import { CELL_WIDE, FIRST_ROW, FULL_PRESSURE, LIFT_STILL, MOST_SIGNS, PAGE_HIGH, PAGE_WIDE, REACH, TILDE, isOnPage, settled, spelled, valueFor, wayOf } from './inksigns.js';
@@ -211,6 +211,29 @@ export function movedInk(text, across, down) {
   return text.slice(0, 4) + points.map(({ x, y }) => spelled(x + dx, 3) + spelled(y + dy, 3)).join('') + text.slice(4 + 6 * points.length);
 }
 
-/** The n-th ink of a page, so that none covers another.
- * @type {(text: string, n: number) => import('./types.js').Shape} */
-export const placed = (text, n) => ({ op: 'text', x: CELL_WIDE * (n % 64), y: FIRST_ROW + (Math.floor(n / 64) % 96), text });
+/** The text of the same ink in another colour. Null if it is none.
+ * @type {(text: string, colour: number) => string | null} */
+export const recoloured = (text, colour) => restyled(text, { colour });
+
+/** The text of the same ink in another look, as far as it has one: widths are of strokes and shapes, sizes and fonts of letters. Null if it is none.
+ * @type {(text: string, look: Partial<import('./style.js').Look>) => string | null} */
+export function restyled(text, look) {
+  const ink = readInk(text);
+  if (!ink) return null;
+  const { kind, colour = 0, width, flag, goesOn } = ink, isLine = kind === 'l' || (isClosed(kind) && kind !== 'n');
+  const dashes = look.isDashed === undefined ? flag & 4 : look.isDashed ? 4 : 0, fill = isClosed(kind) ? look.fill ?? flag & 3 : flag & 3;
+  const other = { colour: look.colour ?? look.bright ?? colour, width: kind === 't' ? look.size ?? width : kind === 'h' ? look.broad ?? width : kind === 'n' || kind === 'k' ? width : look.width ?? width };
+  const sign = isLine ? fill + dashes : kind === 't' ? look.font ?? flag : flag;
+  return text.slice(0, 2) + spelled(9 * other.colour + other.width, 1) + (goesOn ? GOING_ON : FLAGS)[sign] + text.slice(4);
+}
+
+/** Columns of inks in a row, and rows. */
+const COLUMNS = 63, ROWS = 96;
+
+/** The n-th ink of a page, so that none covers another. One that is drawn in the place of others stands a cell further on.
+ * @type {(text: string, n: number, isAgain?: boolean) => import('./types.js').Shape} */
+export const placed = (text, n, isAgain = false) => ({ op: 'text', x: CELL_WIDE * (n % COLUMNS) + Number(isAgain), y: FIRST_ROW + (Math.floor(n / COLUMNS) % ROWS), text });
+
+/** Whether an ink was drawn in the place of others, as by a move.
+ * @type {(shape: import('./types.js').Shape) => boolean} */
+export const isAgain = (shape) => shape.op === 'text' && shape.y >= FIRST_ROW && shape.x % CELL_WIDE === 1;

@@ -8,7 +8,7 @@ const OF_CELLS = { v: 'select', s: 'select', p: 'pen', e: 'erase', d: 'erase', l
 
 /** @param {import('./whiteboard.js').Whiteboard} board @returns {Record<string, () => void>} */
 export function keysOf(board) {
-  const { hand, view, session, painter, sight, style, files } = board, all = [...new Set([...Object.keys(OF_INK), ...Object.keys(OF_CELLS)])];
+  const { hand, view, session, painter, sight, style, overview, owner } = board, all = [...new Set([...Object.keys(OF_INK), ...Object.keys(OF_CELLS)])];
   /** The point that stays where it is when the page becomes larger: what is pointed at, or the middle. */
   const focus = () => {
     const cell = hand.at();
@@ -20,12 +20,14 @@ export function keysOf(board) {
     const tool = /** @type {Record<string, string>} */ (painter.isInk ? OF_INK : OF_CELLS)[key];
     if (tool) hand.choose(tool);
   };
-  const larger = () => view.zoom(1, focus()), smaller = () => view.zoom(-1, focus());
+  /** @param {number} steps */
+  const zoom = (steps) => { owner.take(); view.zoom(steps, focus()); };
+  const larger = () => zoom(1), smaller = () => zoom(-1);
   return {
     ...Object.fromEntries(all.map((key) => [key, () => choose(key)])),
     ...Object.fromEntries(OFFERED.map((colour, i) => [String(i + 1), () => style.setColour(colour)])),
-    g: () => (painter.isInk ? files.showAll() : board.openPalette()), '[': () => session.turn(-1), ']': () => session.turn(1),
-    '?': () => $('keys').showModal(), '+': larger, '=': larger, '-': smaller, 0: () => sight.fitAll(), Home: () => sight.fitAll(),
+    g: () => (painter.isInk ? overview.show() : board.openPalette()), '[': () => session.turn(-1), ']': () => session.turn(1),
+    '?': () => $('keys').showModal(), '+': larger, '=': larger, '-': smaller, 0: () => sight.all(), Home: () => sight.all(),
     c: () => sight.setLook(!painter.isInk),
   };
 }

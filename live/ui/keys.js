@@ -7,6 +7,10 @@ import { $, say } from './dom.js';
 /** @type {Record<string, [number, number]>} */
 const MOVES = { ArrowLeft: [-1, 0], ArrowRight: [1, 0], ArrowUp: [0, -1], ArrowDown: [0, 1], PageUp: [0, -20], PageDown: [0, 20] };
 
+/** The keys that move what is selected by the mouse, or by a finger.
+ * @type {Record<string, [number, number]>} */
+const NUDGES = { ArrowLeft: [-1, 0], ArrowRight: [1, 0], ArrowUp: [0, -1], ArrowDown: [0, 1] };
+
 /** Where the page keeps whether single letters are keys. */
 const KEPT = 'wb-letters';
 
@@ -47,6 +51,7 @@ export class Keys {
     if (key === 'y' || (key === 'z' && isShifted)) this.acts.redo();
     else if (key === 'z') this.acts.undo();
     else if (key === 'a') this.hand.selectAll();
+    else if (key === 'd' && this.hand.parts.changing.isOn) this.hand.parts.changing.duplicate();
     else return false;
     return true;
   }
@@ -62,7 +67,9 @@ export class Keys {
   /** A key that moves and acts on the sheet; whether it meant something.
    * @param {KeyboardEvent} event */
   sheetKey(event) {
-    if (event.key in MOVES) this.moveCursor(MOVES[event.key], event.shiftKey);
+    const { changing } = this.hand.parts;
+    if (event.key in NUDGES && changing.isOn && !this.hand.cursor.on) changing.nudge(...NUDGES[event.key], event.shiftKey);
+    else if (event.key in MOVES) this.moveCursor(MOVES[event.key], event.shiftKey);
     else if (event.key === 'Enter') this.press(event.shiftKey);
     else if (event.key === 'Escape') this.escape();
     else if (event.key === 'Delete' || event.key === 'Backspace') this.hand.deleteSelected();
@@ -71,9 +78,15 @@ export class Keys {
     return true;
   }
 
-  /** Drops what is begun, or else what is selected. */
+  /** Drops what is begun, else what is selected; else nobody is followed any more. */
   escape() {
-    if (!this.hand.gesture) this.hand.selection.clear();
+    const { gesture, selection, parts } = this.hand;
+    if (!gesture && !selection.size) parts.follow.stop();
+    if (!gesture) {
+      parts.changing.settle();
+      selection.clear();
+      this.hand.chose();
+    }
     this.hand.drop();
   }
 
@@ -83,7 +96,7 @@ export class Keys {
     const { cursor } = this.hand, by = cursor.on ? (isFar ? 10 : 1) : 0;
     Object.assign(cursor, { on: true, x: clamp(cursor.x + dx * by, 0, SIDE - 1), y: clamp(cursor.y + dy * by, 0, SIDE - 1) });
     [this.hand.pointer, this.hand.point] = [null, null];
-    this.view.reveal(cursor);
+    if (this.view.reveal(cursor)) this.hand.parts.owner.take();
     this.hand.move({ x: cursor.x, y: cursor.y });
     say(this.acts.describe(cursor));
   }

@@ -1,13 +1,13 @@
-/** The parts of the panel: who is there, what was erased, how the network is, and how it is worsened. */
+/** The parts of the panel: who is there, how the network is, and how it is worsened. */
 import { $, make } from './dom.js';
-import { inkOf, isStroke } from './ink.js';
+import { renew, write } from './keyed.js';
 import { initialsOf } from './notes.js';
 
 /** @typedef {import('./whiteboard.js').Whiteboard} Whiteboard */
 /** @typedef {import('./types.js').Other} Other */
 
-/** Members, erased drawings and warnings that are listed. */
-const MOST_MEMBERS = 64, MOST_HIDDEN = 50, MOST_WARNINGS = 3;
+/** Members and warnings that are listed. */
+const MOST_MEMBERS = 64, MOST_WARNINGS = 3;
 
 /** @param {number} seconds */
 export function ago(seconds) {
@@ -16,35 +16,43 @@ export function ago(seconds) {
 }
 
 /** @param {Whiteboard} board */
-export function showMembers({ session, painter, others, faces }) {
+export function showMembers({ session, painter, others, faces, follow }) {
   /** Where a member is, in words.
    * @param {Other} other @param {string} heard */
   const whereOf = ({ member }, heard) => {
-    const page = others.pageOf(member);
+    const page = others.pageOf(member), follows = others.points.get(member)?.beside.follows ?? null;
     if (member === session.hello.me) return 'you';
+    if (follows !== null) return `follows ${session.who(follows)}`;
     return page ? `on ${session.titleOf(page)}` : heard === 'now' ? 'here' : `heard ${heard}`;
   };
-  /** @param {number} member */
-  const follower = (member) => {
-    const button = make('button', faces.followed === member ? 'Following' : 'Follow');
-    button.setAttribute('aria-pressed', String(faces.followed === member));
-    button.addEventListener('click', () => faces.follow(member));
-    return button;
-  };
   /** @param {Other} other */
-  const row = (other) => {
-    const { member, delay, heard } = other, line = make('li'), words = make('div'), isMe = member === session.hello.me;
-    const seen = heard == null ? '' : ago(heard + (performance.now() - faces.heardAt) / 1000);
-    words.append(make('b', session.nameOf(member)), make('small', whereOf(other, seen)));
-    line.title = `member ${member}${isMe || delay == null ? '' : `, ${delay < 10 ? delay.toFixed(1) : Math.round(delay)} ms away, heard ${seen}`}`;
-    line.append(badge(painter, initialsOf(session.called.get(member), member), member), words, ...(isMe ? [] : [follower(member)]));
+  const row = ({ member }) => {
+    const line = make('li'), words = make('div'), button = make('button');
+    words.append(make('b'), make('small'));
+    button.addEventListener('click', () => follow.follow(follow.leader === member ? null : member));
+    line.append(badge(painter, '', member), words, button);
     return line;
   };
-  const show = () => {
-    const { members } = faces, more = members.length > MOST_MEMBERS ? [make('li', `and ${members.length - MOST_MEMBERS} more`)] : [];
-    if (!$('members').matches(':hover, :focus-within')) $('members').replaceChildren(...members.slice(0, MOST_MEMBERS).map(row), ...more);
+  /** @param {HTMLElement} line @param {Other} other */
+  const fill = (line, other) => {
+    const { member, delay, heard } = other, isMe = member === session.hello.me, [mark, words, button] = /** @type {any} */ (line.children);
+    const seen = heard == null ? '' : ago(heard + (performance.now() - faces.heardAt) / 1000), isFollowed = follow.leader === member;
+    line.title = `member ${member}${isMe || delay == null ? '' : `, ${delay < 10 ? delay.toFixed(1) : Math.round(delay)} ms away, heard ${seen}`}`;
+    write(mark, initialsOf(session.called.get(member), member));
+    mark.style.setProperty('--c', painter.tintOf(member));
+    write(words.firstChild, session.nameOf(member));
+    write(words.lastChild, whereOf(other, seen));
+    write(button, isFollowed ? 'Following' : 'Follow');
+    button.setAttribute('aria-pressed', String(isFollowed));
+    button.hidden = isMe;
   };
-  for (const name of ['members', 'notes', 'followed']) session.on(name, show);
+  const show = () => {
+    const { members } = faces;
+    renew($('members'), members.slice(0, MOST_MEMBERS), ({ member }) => member, row, fill);
+    write($('more-members'), members.length > MOST_MEMBERS ? `and ${members.length - MOST_MEMBERS} more` : '');
+    $('call').hidden = members.length < 2;
+  };
+  for (const name of ['members', 'notes', 'followed', 'presence']) session.on(name, show);
   setInterval(() => $('side').hidden || show(), 1000);
 }
 
@@ -73,36 +81,9 @@ export function showHealth({ session }) {
     $('counts').textContent = `sent ${counts.requests} requests and ${counts.repairs} repairs; ${counts.in} in, ${counts.out} out${more}`;
     $('warnings').replaceChildren(...warnings.slice(-MOST_WARNINGS).map((/** @type {string} */ warning) => make('li', warning)));
   });
-  session.on('link', (is) => is || setHealth('lost', 'wb-live does not answer'));
-  session.on('gone', () => setHealth('lost', 'wb-live was started anew: open the address that it printed'));
+  session.on('link', (link) => link === 'open' || setHealth('lost', link === 'gone' ? 'wb-live has another address now' : 'wb-live does not answer'));
   session.on('hello', ({ twin }) => { $('twin').hidden = !twin; });
   $('renumber').addEventListener('click', () => session.member.renumber?.());
-}
-
-/** What a drawing is, in a word or by its letters.
- * @param {import('./types.js').Drawing} drawing */
-export function kindOf(drawing) {
-  const ink = inkOf(drawing), letters = ink ? ink.letters : drawing.op === 'text' ? drawing.text : '';
-  if (letters) return `“${letters.slice(0, 16)}”`;
-  if (!ink) return drawing.op;
-  return ink.kind === 'h' ? 'highlighter' : isStroke(ink.kind) ? 'writing' : 'shape';
-}
-
-/** What was erased, and can be restored.
- * @param {Whiteboard} board */
-export function showHidden({ session }) {
-  /** @param {import('./types.js').Drawing} drawing */
-  const row = (drawing) => {
-    const line = make('li'), button = make('button', 'Restore');
-    button.addEventListener('click', () => session.restore(drawing));
-    line.append(make('span', `${kindOf(drawing)}, ${session.who(drawing.source)}`), button);
-    line.title = `number ${drawing.seq} of member ${drawing.source}`;
-    return line;
-  };
-  session.on('board', ({ hidden }) => {
-    $('hidden').replaceChildren(...hidden.slice(-MOST_HIDDEN).reverse().map(row));
-    $('hiding').hidden = !hidden.length;
-  });
 }
 
 /** Losses on purpose.

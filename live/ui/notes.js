@@ -1,4 +1,4 @@
-/** Names of members, titles of pages, and what is said: texts on a page that a convention reserves (docs/WORDS.md), which is named,
+/** Names of members, titles of pages, and what is said: texts on a page that a convention reserves (docs/SCRIPTS.md), which is named,
  * repaired and recorded as every other. */
 import { SIDE, spell } from './cells.js';
 import { inTexts, readLetters, writeLetters } from './inkletters.js';
@@ -7,16 +7,19 @@ import { TILDE } from './inksigns.js';
 /** @typedef {import('./types.js').Drawing} Drawing */
 /** What was said, by whom and when.
  * @typedef {{ source: number, seq: number, time: string, text: string }} Said */
-/** The names and the colours of members, the titles of pages, what was said, the first free row, and the session in which the board goes on,
- * with who said so.
- * @typedef {{ names: Map<number, string>, colours: Map<number, number>, titles: Map<string, string>, said: Said[], row: number,
- *   next: { session: string, source: number } | null }} Noted */
+/** The names and the colours of members, the titles of pages, which page was put behind which one, in order, and which were deleted; what was
+ * said, the first free row, and the session in which the board goes on, with who said so.
+ * @typedef {{ names: Map<number, string>, colours: Map<number, number>, titles: Map<string, string>, places: [string, string][], gone: Map<string, Drawing[]>,
+ *   said: Said[], row: number, next: { session: string, source: number } | null }} Noted */
 
 /** The page that is reserved. */
 export const NOTES = '0/0';
 
 /** Letters of a name and of a title. */
 export const MOST_NAME = 24, MOST_TITLE = 36;
+
+/** Moves of pages that count: the last ones. */
+const MOST_PLACES = 1_000;
 
 /** The name of a session in which a board goes on. */
 export const NEXT = /^[A-Za-z0-9._-]{1,40}$/;
@@ -36,12 +39,12 @@ export const shownOf = (letters) => letters.normalize('NFC').replace(/\s+/g, ' '
 const firstOf = (letters, many) => [...letters].slice(0, many).join('');
 
 /** What the texts of the reserved page say, the later ones over the earlier: a member names itself alone and chooses its own colour; anyone
- * entitles a page, and says where the board goes on.
+ * entitles, moves and deletes a page, and says where the board goes on.
  * @param {Drawing[]} drawops in the order of painting
  * @returns {Noted} */
 export function readNotes(drawops) {
   /** @type {Noted} */
-  const told = { names: new Map(), colours: new Map(), titles: new Map(), said: [], row: 0, next: null };
+  const told = { names: new Map(), colours: new Map(), titles: new Map(), places: [], gone: new Map(), said: [], row: 0, next: null };
   for (const drawing of drawops) {
     if (drawing.op !== 'text') continue;
     const { source, seq, time, text } = drawing, [, word = '', tilde = '', rest = ''] = WORD.exec(text) ?? [], [, page, title] = /^(\d+\/\d+) ?(.*)$/.exec(rest) ?? [];
@@ -55,8 +58,18 @@ export function readNotes(drawops) {
     if (word === 'colour' && /^[0-8]$/.test(rest)) told.colours.set(source, Number(rest));
     if (word === 'colour' && rest === '') told.colours.delete(source);
     if (word === 'next' && NEXT.test(rest)) told.next = { session: rest, source };
+    readOrder(told, word, rest, drawing);
   }
+  told.places = told.places.slice(-MOST_PLACES);
   return told;
+}
+
+/** Where a page is put, and that one is deleted.
+ * @type {(told: Noted, word: string, rest: string, drawing: Drawing) => void} */
+function readOrder({ places, gone }, word, rest, drawing) {
+  const [, page, after] = /^(\d+\/\d+)(?: (\d+\/\d+))?$/.exec(rest) ?? [];
+  if (word === 'place' && page && after) places.push([page, after]);
+  if (word === 'gone' && page && !after) gone.set(page, [drawing, ...gone.get(page) ?? []]);
 }
 
 /** One or two letters for a member: of its name, else the last digits of its number.
@@ -99,6 +112,7 @@ export class Notes {
     this.told = readNotes(drawops);
     this.session.called = this.told.names;
     this.session.titles = this.told.titles;
+    this.session.ordered = this.told;
     this.session.emit('notes', this.told);
   }
 
@@ -122,6 +136,24 @@ export class Notes {
   /** @param {string} page @param {string} title */
   entitle(page, title) {
     return this.write(spoken('title', `${page} `, firstOf(shownOf(title), MOST_TITLE))[0]);
+  }
+
+  /** Puts a page behind another one, or first behind the reserved one.
+   * @param {string} page @param {string} after */
+  place(page, after) {
+    return this.write(`place ${page} ${after}`);
+  }
+
+  /** Says that a page is deleted: it is listed no more until something is drawn on it.
+   * @param {string} page */
+  remove(page) {
+    return this.write(`gone ${page}`);
+  }
+
+  /** Takes back that a page is deleted.
+   * @param {string} page */
+  keep(page) {
+    this.told.gone.get(page)?.forEach((drawing) => this.session.hide(drawing, NOTES));
   }
 
   /** Says a text, in as many pieces as it takes.

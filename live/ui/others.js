@@ -1,19 +1,24 @@
 /** Where others point, and what they draw before they let go. Datagrams of the driver's own carry it: nobody repairs or keeps it. */
 import { spell } from './cells.js';
-import { shapeOf } from './clipboard.js';
 import { $ } from './dom.js';
 import { SANS } from './inkfonts.js';
 import { initialsOf } from './notes.js';
+import { readBeside } from './points.js';
 
 /** @typedef {import('./types.js').Pointed} Pointed */
 /** @typedef {import('./types.js').Shape} Shape */
 /** @typedef {import('./whiteboard.js').Whiteboard} Whiteboard */
+/** What was heard last of a member, and when it became so.
+ * @typedef {{ heardAt: number, pointed: Pointed, beside: import('./points.js').Beside }} Point */
 
 /** Milliseconds between two tellings, at least, and after which one that is not heard points nowhere. */
 const PAUSE = 60, STAYS = 4000;
 
 /** Lines of what is begun that are sent, and texts of ink: as many as a datagram has room for. */
 const MOST_BEGUN = 12, MOST_INKS = 7;
+
+/** Members whose last points are remembered. */
+const MOST_POINTS = 256;
 
 /** Where the page keeps whether this is sent. */
 const KEPT = 'wb-pointing';
@@ -25,47 +30,65 @@ export class Others {
   /** @param {Whiteboard} board */
   constructor(board) {
     this.board = board;
-    /** @type {{ heardAt: number, pointed: Pointed }[]} */
+    /** Who is there to be heard.
+     * @type {Point[]} */
     this.heard = [];
-    /** The page that each member was heard to look at last.
-     * @type {Map<number, string>} */
-    this.pages = new Map();
+    /** What each member told last.
+     * @type {Map<number, Point>} */
+    this.points = new Map();
     this.isTold = localStorage.getItem(KEPT) !== 'off';
     this.timer = 0;
     this.last = '';
     board.session.on('presence', ({ others }) => this.take(others));
+    board.view.onMove(() => this.soon());
     board.painter.over = () => this.paint();
     $('pointing').checked = this.isTold;
-    $('pointing').addEventListener('change', () => {
-      this.isTold = $('pointing').checked;
-      localStorage.setItem(KEPT, this.isTold ? 'on' : 'off');
-      this.soon();
-    });
+    $('pointing').addEventListener('change', () => this.setTold($('pointing').checked));
+  }
+
+  /** Whether others hear of what is pointed at.
+   * @param {boolean} is */
+  setTold(is) {
+    this.isTold = $('pointing').checked = is;
+    localStorage.setItem(KEPT, is ? 'on' : 'off');
+    this.soon();
   }
 
   /** @param {Pointed[]} others */
   take(others) {
-    const was = this.heard, now = performance.now();
+    const now = performance.now();
     this.heard = others.map((pointed) => {
-      const same = was.find((other) => JSON.stringify(other.pointed) === JSON.stringify(pointed));
-      return { heardAt: same && others.length > 1 ? same.heardAt : now, pointed };
+      const was = this.points.get(pointed.member), isSame = others.length > 1 && JSON.stringify(was?.pointed) === JSON.stringify(pointed);
+      return { heardAt: was && isSame ? was.heardAt : now, pointed, beside: readBeside(pointed.begun) };
     });
-    others.forEach(({ member, page }) => this.pages.set(member, page));
+    this.heard.forEach((point) => this.keep(point));
     setTimeout(() => this.board.painter.soon(), STAYS + 50);
     this.board.painter.soon();
   }
 
-  /** What a member points at, if that was heard lately.
-   * @param {number} member */
-  of(member) {
-    const found = this.heard.find(({ pointed }) => pointed.member === member);
-    return found && performance.now() - found.heardAt < STAYS ? found.pointed : null;
+  /** @param {Point} point */
+  keep(point) {
+    this.points.delete(point.pointed.member);
+    this.points.set(point.pointed.member, point);
+    if (this.points.size > MOST_POINTS) this.points.delete([...this.points.keys()][0]);
   }
 
   /** The page that a member was heard to look at last, or ''.
    * @param {number} member */
   pageOf(member) {
-    return this.pages.get(member) ?? '';
+    return this.points.get(member)?.pointed.page ?? '';
+  }
+
+  /** Who follows a member, of those that are heard.
+   * @param {number} member */
+  followersOf(member) {
+    return this.heard.filter(({ beside }) => beside.follows === member).map(({ pointed }) => pointed.member);
+  }
+
+  /** Tells the same again. */
+  again() {
+    this.last = '';
+    this.soon();
   }
 
   /** Something of the hand has changed: tells it, not too often. */
@@ -80,9 +103,9 @@ export class Others {
   }
 
   tell() {
-    const { session, hand } = this.board, at = this.isTold ? hand.at() : null, { page } = session.board;
+    const { session, hand, follow } = this.board, at = this.isTold ? hand.at() : null, { page } = session.board;
     this.timer = 0;
-    const begun = at ? this.begun() : [], text = JSON.stringify([page, at?.x, at?.y, begun]);
+    const begun = [...(this.isTold ? follow.lines() : []), ...(at ? this.begun() : [])], text = JSON.stringify([page, at?.x, at?.y, begun]);
     if (text === this.last || !page) return;
     this.last = text;
     session.member.point?.(page, at ? [at.x, at.y] : null, begun);
@@ -91,11 +114,10 @@ export class Others {
   /** What others of this page have begun, and a mark with their initials or names where they point. */
   paint() {
     const { session, painter } = this.board, now = performance.now();
-    for (const { heardAt, pointed: { member, page, cell, begun } } of this.heard) {
+    for (const { heardAt, pointed: { member, page, cell }, beside: { shapes } } of this.heard) {
       if (page !== session.board.page || !cell || now - heardAt > STAYS) continue;
-      const shapes = /** @type {Shape[]} */ (begun.map(shapeOf).filter((shape) => shape !== null)), [x, y] = cell;
-      if (painter.isInk) this.paintInk(member, shapes, x, y);
-      else this.paintCells(member, shapes, x, y);
+      if (painter.isInk) this.paintInk(member, shapes, ...cell);
+      else this.paintCells(member, shapes, ...cell);
     }
   }
 

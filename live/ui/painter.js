@@ -1,6 +1,6 @@
 /** The canvas of the sheet: its colours, and a frame for each change, which the look in view paints. */
 import { CellLayer } from './celllayer.js';
-import { DAY, NIGHT, colourOf } from './colours.js';
+import { DAY, NIGHT, ON_WHITE, colourOf } from './colours.js';
 import { InkGhosts } from './inkghosts.js';
 import { InkLayer } from './inklayer.js';
 import { CELL_WIDE } from './inksigns.js';
@@ -34,9 +34,6 @@ export class Painter {
     this.colours = {};
     this.font = '';
     this.isPlanned = false;
-    /** The colours of members that have chosen none.
-     * @type {Map<number, string>} */
-    this.tints = new Map();
     /** Another number where everything looks different. */
     this.look = 0;
     /** Paints over the sheet, last: what others point at.
@@ -76,7 +73,6 @@ export class Painter {
     const style = getComputedStyle(document.documentElement);
     this.colours = Object.fromEntries(NAMES.map((name) => [name, style.getPropertyValue(`--${name}`).trim()]));
     this.font = style.getPropertyValue('--mono');
-    this.tints.clear();
     this.repaint();
   }
 
@@ -95,12 +91,15 @@ export class Painter {
 
   /** The colour of a member: the one that it chose, else one by its number.
    * @param {number} source */
-  tintOf(source) {
-    const chosen = this.parts?.notes.told.colours.get(source), isNight = this.isNight();
-    if (chosen !== undefined) return (isNight ? NIGHT : DAY)[chosen];
-    const tint = this.tints.get(source) ?? colourOf(source, isNight);
-    this.tints.set(source, tint);
-    return tint;
+  tintOf(source, isNight = this.isNight()) {
+    const chosen = this.parts?.notes.told.colours.get(source);
+    return chosen === undefined ? colourOf(source, isNight) : (isNight ? NIGHT : DAY)[chosen];
+  }
+
+  /** What is saved and printed has the colours of the day.
+   * @returns {import('./inkpaint.js').Shades} */
+  get byDay() {
+    return { isNight: () => false, colours: ON_WHITE, tintOf: (source) => this.tintOf(source, false) };
   }
 
   soon() {

@@ -2,6 +2,12 @@
 
 /** @typedef {import('./view.js').View} View */
 /** @typedef {import('./hand.js').Hand} Hand */
+/** What the other end of a pen has for its button, and the button at its side. */
+const ERASER = 5, SIDE = 2;
+
+/** Points of the screen within which a mouse or a pen takes what is drawn, and a finger. */
+const REACH = 7, FINGER = 16;
+
 /** The middle of the fingers, and how far two of them are apart.
  * @typedef {{ x: number, y: number, spread: number }} Middle */
 
@@ -25,6 +31,8 @@ export class Pointing {
     sheet.addEventListener('pointermove', (event) => this.move(event));
     sheet.addEventListener('pointerup', (event) => this.up(event));
     sheet.addEventListener('pointercancel', (event) => this.cancel(event));
+    // the button of a pen opens no menu
+    sheet.addEventListener('contextmenu', (event) => /** @type {PointerEvent} */ (event).pointerType === 'mouse' || event.preventDefault());
     sheet.addEventListener('pointerleave', () => {
       [hand.pointer, hand.point] = [null, null];
       hand.changed();
@@ -58,7 +66,7 @@ export class Pointing {
 
   startPan() {
     const { view } = this, middle = this.middle(), box = view.sheet.getBoundingClientRect();
-    this.hand.parts.sight.stay();
+    this.hand.parts.owner.take();
     this.hand.drop();
     this.pan = { ...middle, wide: view.wide,
       over: { x: view.left + (middle.x - box.left) / view.wide, y: view.top + (middle.y - box.top) / view.high } };
@@ -76,9 +84,12 @@ export class Pointing {
   down(event) {
     const { view, hand } = this, { sheet } = view;
     const isTouch = event.pointerType === 'touch';
-    if (event.target instanceof HTMLTextAreaElement || event.button > 1) return;
+    const isPen = event.pointerType === 'pen', isErasing = isPen && event.button === ERASER;
+    if (event.target instanceof HTMLTextAreaElement || (event.button > 1 && !isErasing && !(isPen && event.button === SIDE))) return;
     event.preventDefault();
-    this.hasStylus ||= event.pointerType === 'pen';
+    this.hasStylus ||= isPen;
+    view.reach = isTouch ? FINGER : REACH;
+    if (isPen && event.button === SIDE && hand.tool !== 'select') hand.choose('select');
     if (isTouch && this.isStylusDown()) return;
     sheet.focus(/** @type {FocusOptions} */ ({ preventScroll: true, focusVisible: false }));
     sheet.setPointerCapture(event.pointerId);
@@ -87,9 +98,9 @@ export class Pointing {
     hand.pointer = view.cellAt(event);
     hand.point = view.pointAt(event);
     // a pen that is pressed as hard everywhere tells nothing of it
-    this.isPressed = event.pointerType === 'pen' && event.pressure > 0 && event.pressure !== 0.5;
+    this.isPressed = isPen && event.pressure > 0 && event.pressure !== 0.5;
     if (this.fingers.size > 1 || this.isSpaced || hand.tool === 'hand' || event.button === 1 || (isTouch && this.hasStylus)) this.startPan();
-    else hand.begin(hand.pointer, this.pointsOf(event)[0], { isShifted: event.shiftKey, isPressed: this.isPressed });
+    else hand.begin(hand.pointer, this.pointsOf(event)[0], { isShifted: event.shiftKey, isPressed: this.isPressed, tool: isErasing ? 'erase' : undefined });
   }
 
   /** @param {PointerEvent} event */
@@ -127,7 +138,7 @@ export class Pointing {
   /** @param {WheelEvent} event */
   wheel(event) {
     event.preventDefault();
-    this.hand.parts.sight.stay();
+    this.hand.parts.owner.take();
     const { view } = this, unit = event.deltaMode ? 1 : 1 / view.high, box = view.sheet.getBoundingClientRect();
     const [across, down] = event.shiftKey ? [event.deltaY, 0] : [event.deltaX, event.deltaY];
     if (event.ctrlKey) view.zoom(-event.deltaY * (event.deltaMode ? 0.2 : 0.01), { x: event.clientX - box.left, y: event.clientY - box.top });

@@ -3,45 +3,63 @@
 import { SIDE, clamp } from './cells.js';
 import { isClosed, isStroke } from './ink.js';
 import { isLetters } from './inkfonts.js';
-import { boxAboutAll } from './inkpaint.js';
+import { boxAboutAll, closeBoxOf } from './inkpaint.js';
 import { CELL_HIGH, CELL_WIDE, SIZES } from './inksigns.js';
 import { placed, writeLink, writeShape, writeStroke, writeWords } from './inkwriting.js';
 
 /** @typedef {import('./types.js').Shape} Shape */
 /** @typedef {import('./ink.js').Point} Point */
 /** @typedef {import('./inkitems.js').Item} Item */
-/** A corner of the box, and the one opposite to it.
- * @typedef {{ at: Point, still: Point }} Grip */
+/** A corner of the box, and the one opposite to it; or the grip that turns it, and the middle.
+ * @typedef {{ at: Point, still: Point, isTurn?: boolean }} Grip */
 /** Where each point of the page comes to lie, and how many times as large it all becomes.
- * @typedef {{ to: (point: Point) => Point, times: number }} Stretch */
+ * @typedef {{ to: (point: Point) => Point, times: number, isTurn?: boolean }} Stretch */
 
-/** Points of the screen within which a corner is taken. */
-const REACH = 13;
+/** Points of the screen within which a grip is taken, and from the box to the one that turns it. */
+const REACH = 16, ABOVE = 30;
+
+/** With Shift it is turned in steps of 15 degrees. */
+const STEP = Math.PI / 12;
 
 /** Nothing becomes smaller than this part of what it was. */
 const LEAST = 0.1;
 
-/** The corners of the box about some items: none if there are no items.
- * @type {(items: Item[]) => Grip[]} */
-export function gripsOf(items) {
-  const box = boxAboutAll(items);
+/** The box about some items, as close as it is shown: null if there are none.
+ * @type {(items: Item[]) => import('./inkpaint.js').Box | null} */
+export const frameAbout = (items) => boxAboutAll(items, closeBoxOf);
+
+/** The corners of the box about some items, and above it the grip that turns them about their middle: none if there are no items.
+ * @type {(items: Item[], point: number) => Grip[]} */
+export function gripsOf(items, point) {
+  const box = frameAbout(items);
   if (!box) return [];
-  const { x0, y0, x1, y1 } = box, corners = [{ x: x0, y: y0 }, { x: x1, y: y0 }, { x: x1, y: y1 }, { x: x0, y: y1 }];
-  return corners.map((at, i) => ({ at, still: corners[(i + 2) % 4] }));
+  const { x0, y0, x1, y1 } = box, corners = [{ x: x0, y: y0 }, { x: x1, y: y0 }, { x: x1, y: y1 }, { x: x0, y: y1 }], middle = { x: (x0 + x1) / 2, y: (y0 + y1) / 2 };
+  return [...corners.map((at, i) => ({ at, still: corners[(i + 2) % 4] })), { at: { x: middle.x, y: y0 - ABOVE * point }, still: middle, isTurn: true }];
 }
 
-/** The corner that is under a hand, by how large a point of the screen is. What is small can be taken between its corners still.
+/** The grip that is under a hand, by how large a point of the screen is. What is small can be taken between its corners still.
  * @type {(items: Item[], at: Point, point: number) => Grip | undefined} */
 export function gripAt(items, { x, y }, point) {
-  return gripsOf(items).find(({ at, still }) => {
+  return gripsOf(items, point).find(({ at, still }) => {
     const side = Math.max(Math.abs(at.x - still.x), Math.abs(at.y - still.y));
     return Math.max(Math.abs(at.x - x), Math.abs(at.y - y)) < Math.min(REACH * point, side / 4);
   });
 }
 
+/** What becomes of the page if it is turned about a point: in steps of 15 degrees where that is asked for.
+ * @type {(grip: Grip, by: Point, isEven: boolean) => Stretch} */
+function turnOf({ at, still }, by, isEven) {
+  const free = Math.atan2(at.y + by.y - still.y, at.x + by.x - still.x) - Math.atan2(at.y - still.y, at.x - still.x);
+  const angle = isEven ? Math.round(free / STEP) * STEP : free, [cos, sin] = [Math.cos(angle), Math.sin(angle)];
+  const to = (/** @type {Point} */ point) => ({ ...point, x: still.x + (point.x - still.x) * cos - (point.y - still.y) * sin, y: still.y + (point.x - still.x) * sin + (point.y - still.y) * cos });
+  return { to, times: 1, isTurn: true };
+}
+
 /** What becomes of the page if a corner is drawn so far: alike across and down where that is asked for, and where letters are among the items.
  * @type {(grip: Grip, items: Item[], by: Point, isEven: boolean) => Stretch} */
-export function stretchOf({ at, still }, items, by, isEven) {
+export function stretchOf(grip, items, by, isEven) {
+  const { at, still } = grip;
+  if (grip.isTurn) return turnOf(grip, by, isEven);
   /** @type {(axis: 'x' | 'y') => number} */
   const timesOf = (axis) => {
     const was = at[axis] - still[axis];
@@ -55,10 +73,20 @@ export function stretchOf({ at, still }, items, by, isEven) {
  * @type {(size: number) => number} */
 const sizeNear = (size) => SIZES.reduce((best, each, i) => (Math.abs(each - size) < Math.abs(SIZES[best] - size) ? i : best), 0);
 
+/** The points of an item whose middle comes to lie elsewhere.
+ * @type {(item: Item, to: (point: Point) => Point) => Point[]} */
+function about(item, to) {
+  const { x0, y0, x1, y1 } = closeBoxOf(item), middle = { x: (x0 + x1) / 2, y: (y0 + y1) / 2 }, at = to(middle);
+  return item.points.map((point) => ({ ...point, x: point.x + at.x - middle.x, y: point.y + at.y - middle.y }));
+}
+
 /** The texts of the same ink elsewhere, larger or smaller.
  * @type {(item: Item, stretch: Stretch) => string[]} */
-function inkTexts({ kind, colour, width, flag, points, letters }, { to, times }) {
-  const look = { colour, width }, moved = points.map(to);
+function inkTexts(item, { to, times, isTurn }) {
+  const { kind, colour, width, flag, points, letters } = item;
+  const look = { colour, width }, upright = isClosed(kind) || isLetters({ kind });
+  // shapes and letters stay upright: their middle is turned alone
+  const moved = isTurn && upright ? about(item, to) : points.map(to);
   if (isStroke(kind)) return writeStroke({ ...look, kind, scale: flag }, moved).map(({ text }) => text);
   if (kind === 'l' || isClosed(kind)) return writeShape(kind, look, flag, moved, letters);
   const sized = { colour, width: sizeNear(SIZES[width] * times) }, link = kind === 'k' ? writeLink(sized, moved[0], letters) : null;

@@ -1,6 +1,6 @@
 /** What the member told last, and what it is asked to do. The page holds no other truth. */
 import { nameOf, spell } from './cells.js';
-import { NOTES } from './notes.js';
+import { calledBy, leavesOf } from './leaves.js';
 
 /** @typedef {import('./types.js').Member} Member */
 /** @typedef {import('./types.js').Shape} Shape */
@@ -74,12 +74,20 @@ export class Session {
     /** The first page that is shown: what is drawn before waits for it.
      * @type {Promise<string>} */
     this.opened = new Promise((open) => { this.open = open; });
-    this.isLinked = false;
-    /** The names of members, and the titles of pages.
+    /** Whether the member answers: what the page says of that goes by this alone.
+     * @type {import('./types.js').Link} */
+    this.link = 'lost';
+    this.unsent = 0;
+    /** The names of members, the titles of pages, and how people ordered them.
      * @type {Map<number, string>} */
     this.called = new Map();
     /** @type {Map<string, string>} */
     this.titles = new Map();
+    /** @type {import('./leaves.js').Ordered} */
+    this.ordered = { places: [], gone: new Map() };
+    /** The pages that are listed, until one of these is another.
+     * @type {{ of: any[], leaves: import('./types.js').Leaf[] }} */
+    this.listed = { of: [], leaves: [] };
     /** @type {Map<string, ((news: any, taken?: any) => void)[]>} */
     this.listeners = new Map();
   }
@@ -105,7 +113,8 @@ export class Session {
   take(name, news) {
     if (name === 'hello') this.hello = news;
     if (name === 'pages') this.pages = news.pages;
-    if (name === 'link') this.isLinked = news;
+    if (name === 'link') this.link = news;
+    if (name === 'unsent') this.unsent = news;
     if (name === 'change') this.takePart(news);
     else if (name === 'board') this.takeWhole(news);
     else this.emit(name, news);
@@ -174,7 +183,7 @@ export class Session {
   /** What a page is called: by its title, else by its place among the pages.
    * @param {string} page */
   titleOf(page) {
-    return this.titles.get(page) || `Page ${Math.max(0, this.leaves().findIndex((leaf) => leaf.page === page)) + 1}`;
+    return this.titles.get(page) || calledBy(this.leaves(), page);
   }
 
   /** Whose drawing it is, in words.
@@ -222,8 +231,9 @@ export class Session {
   }
 
   /** Asks for a page, or for a new one.
-   * @param {string | null} page */
-  async goToPage(page) {
+   * @param {string | null} page @param {boolean} [isLed] whether that is another's wish */
+  async goToPage(page, isLed = false) {
+    if (!isLed) this.emit('turning');
     this.wished = page;
     const answer = await this.member.choose(page);
     if (answer.ok) return;
@@ -231,9 +241,16 @@ export class Session {
     this.emit('fault', `The page was not turned: ${answer.fault}`);
   }
 
-  /** The pages that are turned through: all but the reserved one. */
+  /** The pages that are turned through. */
   leaves() {
-    return this.pages.filter(({ page }) => page !== NOTES);
+    const of = [this.pages, this.ordered, this.board.page];
+    if (of.some((each, i) => each !== this.listed.of[i])) this.listed = { of, leaves: leavesOf(this.pages, this.ordered, this.board.page) };
+    return this.listed.leaves;
+  }
+
+  /** Whether this window may clear pages: the one of who keeps the board decides that for the others. */
+  get mayClear() {
+    return this.hello.clears !== false;
   }
 
   /** Turns some pages on, from the page that was asked for last.

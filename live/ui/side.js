@@ -28,6 +28,7 @@ export class Side {
       $(`panel-${own}`).hidden = own !== name;
     }
     this.count(this.board.notes.told.said);
+    this.board.history.show();
     if (name === 'chat') $('saying').focus();
     else $(`tab-${name}`).focus();
   }

@@ -1,7 +1,7 @@
-/** What is in sight: everything at once, the way back to the drawings, the look of the page, light or dark, and the page on paper. */
+/** What is in sight: everything at once, the way back to the drawings, the look of the page, and light or dark. */
 import { $ } from './dom.js';
 import { boxAboutAll, boxOf } from './inkpaint.js';
-import { CELL_HIGH, CELL_WIDE, FIRST_ROW } from './inksigns.js';
+import { FIRST_ROW } from './inksigns.js';
 import { USUAL } from './view.js';
 
 /** Tools that one of the looks has not. */
@@ -17,9 +17,9 @@ export class Sight {
     /** Whether all of the page is shown as soon as its ink is taken. */
     this.isToFit = false;
     board.view.onMove(() => this.moved());
-    $('percent').addEventListener('click', () => board.view.fit());
-    $('fit').addEventListener('click', () => this.fitAll());
-    $('away').addEventListener('click', () => (board.painter.isInk ? this.fitAll() : board.view.goTo(0, FIRST_ROW - 2)));
+    $('percent').addEventListener('click', () => { board.owner.take(); board.view.fit(); });
+    $('fit').addEventListener('click', () => this.all());
+    $('away').addEventListener('click', () => (board.painter.isInk ? this.all() : board.view.goTo(0, FIRST_ROW - 2)));
     $('look').addEventListener('change', () => this.setLook($('look').value === 'ink'));
     $('theme').addEventListener('change', () => this.setTheme($('theme').value));
     $('theme').value = board.painter.theme;
@@ -58,8 +58,7 @@ export class Sight {
 
   /** Says where the drawings are if none is in view. */
   showAway() {
-    const { view, ink, painter } = this.board, [x0, y0] = [view.left * CELL_WIDE, view.top * CELL_HIGH];
-    const [x1, y1] = [x0 + view.columns * CELL_WIDE, y0 + view.rows * CELL_HIGH];
+    const { view, ink, painter } = this.board, { x0, y0, x1, y1 } = view.boxInUnits();
     const isSeen = () => ink.items.some((item) => {
       const box = boxOf(item);
       return box.x0 < x1 && box.x1 > x0 && box.y0 < y1 && box.y1 > y0;
@@ -67,6 +66,12 @@ export class Sight {
     const isPacked = () => view.top + view.rows < FIRST_ROW && ink.items.some(({ kind }) => kind.length === 1);
     $('away').hidden = painter.isInk ? !ink.items.length || isSeen() : !isPacked();
     $('away').textContent = painter.isInk ? 'Back to the drawings' : `Ink stands packed from row ${FIRST_ROW} on: go there`;
+  }
+
+  /** The hand asks for everything. */
+  all() {
+    this.board.owner.take();
+    this.fitAll();
   }
 
   /** Shows everything, beside what floats over the sheet; by characters, the corner of the page. */
@@ -78,7 +83,7 @@ export class Sight {
       view.home();
       return;
     }
-    for (const island of document.querySelectorAll('.island')) {
+    for (const island of document.querySelectorAll('.island:not(#chosen)')) {
       const { top, bottom, height } = island.getBoundingClientRect();
       if (height && top + bottom < innerHeight) edge.top = Math.max(edge.top, bottom + FREE.beside);
       else if (height) edge.bottom = Math.max(edge.bottom, innerHeight - top + FREE.beside);
@@ -103,16 +108,5 @@ export class Sight {
   setTheme(theme) {
     this.board.painter.setTheme(theme);
     this.board.changeColours();
-  }
-
-  /** As ink the canvas is printed, with everything in it; by characters the text, as wide as the paper. */
-  fitPrint() {
-    const { painter, session } = this.board;
-    if (painter.isInk) {
-      this.fitAll();
-      painter.paint(performance.now());
-    }
-    const longest = Math.max(40, ...session.board.rows.map((row) => row.length));
-    $('text').style.fontSize = `${Math.min(12, 820 / longest)}pt`;
   }
 }

@@ -1,10 +1,22 @@
 /** How the board is, in words for everyone: whether everything is here, and how full it is. */
-import { $, tell } from './dom.js';
+import { $, say, tell } from './dom.js';
+import { write } from './keyed.js';
 
 /** @typedef {import('./types.js').Health} Health */
 
 /** Drawops of a full board; the part of it from which on the page says so; and the part from which on names, the chat and deletes alone have room. */
 const ALL = 65_535, CLOSE = 0.8, FULL = 15 / 16;
+
+/** @param {number} many */
+const drawingsOf = (many) => (many === 1 ? '1 drawing' : `${many} drawings`);
+
+/** What is the matter with the connection; empty if nothing is.
+ * @type {(link: import('./types.js').Link, unsent: number) => string} */
+export function linked(link, unsent) {
+  if (link === 'open') return '';
+  if (link === 'gone') return 'This board has another address now';
+  return unsent ? `Offline: ${drawingsOf(unsent)} ${unsent === 1 ? 'waits' : 'wait'} here` : 'Offline: what you draw waits here';
+}
 
 /** What the member says of itself, in words for everyone.
  * @type {(health: Health, isReady: boolean) => { kind: string, text: string }} */
@@ -12,7 +24,7 @@ export function plainly({ phrase, missing, warnings }, isReady) {
   const all = warnings.join('\n');
   if (/board is full/.test(all)) return { kind: 'lost', text: 'The board is full' };
   if (!isReady) return { kind: 'missing', text: 'Looking who is here' };
-  if (missing) return { kind: 'missing', text: `Catching up: ${missing === 1 ? '1 drawing' : `${missing} drawings`}` };
+  if (missing) return { kind: 'missing', text: `Catching up: ${drawingsOf(missing)}` };
   if (/board becomes full/.test(all)) return { kind: 'warns', text: 'The board is almost full' };
   return /^(whole|caught up)/.test(phrase) ? { kind: '', text: 'Everything is here' } : { kind: 'missing', text: phrase };
 }
@@ -31,27 +43,33 @@ export class State {
     this.board = board;
     /** Which part of the board is taken. */
     this.full = 0;
+    /** @type {Health | null} */
+    this.health = null;
+    for (const name of ['link', 'unsent']) session.on(name, () => this.show());
+    session.on('link', (link) => (link !== 'open' || this.health) && say(linked(link, session.unsent) || 'The board is here again'));
     session.on('health', (health) => this.take(health));
-    session.on('link', (is) => is || this.show('lost', 'Offline: what you draw is not sent'));
-    session.on('gone', () => this.show('lost', 'This board was started anew: open its new address'));
     session.on('notes', () => this.showNext());
     $('go-on').addEventListener('click', () => this.goOn());
   }
 
   /** @param {Health} health */
   take(health) {
-    const { session } = this.board, { kind, text } = plainly(health, session.hello.ready);
+    const { session } = this.board;
+    this.health = health;
     this.full = fullness(health.warnings, session.pages, session.hello.cells);
-    this.show(kind, text);
+    this.show();
     this.showNext();
   }
 
-  /** @param {string} kind @param {string} text */
-  show(kind, text) {
-    const button = $('state'), words = button.querySelector('span');
+  /** By the connection, and if that is there by the health. */
+  show() {
+    const { session: { link, unsent, hello } } = this.board, button = $('state'), away = linked(link, unsent);
+    const { kind, text } = away || !this.health ? { kind: 'lost', text: away || 'connecting' } : plainly(this.health, hello.ready);
     button.className = `island ${kind}`;
-    if (words.textContent !== text) words.textContent = text;
     button.title = text;
+    write(button.querySelector('span'), text);
+    $('gone').hidden = link !== 'gone';
+    write($('gone-unsent'), unsent ? `${drawingsOf(unsent)} of yours ${unsent === 1 ? 'was' : 'were'} not sent.` : '');
   }
 
   /** From some part on the page offers to go on on a new board; where someone did, it says so. */

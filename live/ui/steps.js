@@ -1,6 +1,6 @@
 /** Undo and redo by steps: what one gesture drew, deleted and restored, however many drawops it took. */
 import { nameOf } from './cells.js';
-import { say } from './dom.js';
+import { say, tell } from './dom.js';
 
 /** @typedef {import('./session.js').Session} Session */
 /** @typedef {import('./types.js').Shape} Shape */
@@ -19,12 +19,22 @@ export class Steps {
     /** Our drawings that an undo hides, while the board still shows them.
      * @type {Set<string>} */
     this.leaving = new Set();
-    session.on('board', () => this.leaving.clear());
+    /** The drawings that are painted as one with a drawing.
+     * @type {(drawing: import('./types.js').Drawing) => import('./types.js').Drawing[]} */
+    this.itemOf = (drawing) => [drawing];
+    /** Drawings that we restored, while the board does not show them yet.
+     * @type {Set<string>} */
+    this.coming = new Set();
+    session.on('board', (_, { isTurned }) => {
+      this.leaving.clear();
+      this.coming.forEach((name) => (isTurned || session.shown.has(name)) && this.coming.delete(name));
+    });
   }
 
-  /** A new step on the page in view. What can be restored by redo is forgotten. */
-  begin() {
-    const step = new Step(this.session, this.session.board.page);
+  /** A new step, on the page in view if no other is named. What can be restored by redo is forgotten.
+   * @param {string} [page] */
+  begin(page = this.session.board.page) {
+    const step = new Step(this.session, page, this.coming);
     this.done.push(step);
     this.undone = this.undone.filter(({ page }) => page !== step.page);
     return step;
@@ -50,6 +60,7 @@ export class Steps {
     const at = this.done.findLastIndex(({ page, isEmpty }) => page === this.session.board.page && !isEmpty);
     if (at < 0) return this.undoDrawn();
     const [step] = this.done.splice(at, 1);
+    if (await step.isMoot()) return tell('What you drew last is erased already. The panel “People” brings it back.');
     this.undone.push(await step.reversed());
     return undefined;
   }
@@ -62,24 +73,27 @@ export class Steps {
     return undefined;
   }
 
-  /** Hides our last drawing that the page shows: it was drawn before this page was opened. */
+  /** Hides our last item that the page shows: it was drawn before this page was opened. */
   async undoDrawn() {
     const { board, hello } = this.session;
     const ours = board.drawops.filter((drawing) => drawing.source === hello.me && !this.leaving.has(nameOf(drawing)));
     if (!ours.length) return say('Nothing of yours is left on this page.');
-    const last = ours.reduce((a, b) => (a.seq > b.seq ? a : b)), step = new Step(this.session, board.page);
-    this.leaving.add(nameOf(last));
-    step.hide(last);
+    const last = ours.reduce((a, b) => (a.seq > b.seq ? a : b)), step = new Step(this.session, board.page, this.coming);
+    for (const drawing of this.itemOf(last)) {
+      this.leaving.add(nameOf(drawing));
+      step.hide(drawing);
+    }
     this.undone.push(step);
     return undefined;
   }
 }
 
 class Step {
-  /** @param {Session} session @param {string} page */
-  constructor(session, page) {
+  /** @param {Session} session @param {string} page @param {Set<string>} coming what is restored and not shown yet */
+  constructor(session, page, coming) {
     this.session = session;
     this.page = page;
+    this.coming = coming;
     /** What was done, in order, as far as the member has taken it.
      * @type {Deed[]} */
     this.deeds = [];
@@ -103,6 +117,7 @@ class Step {
 
   /** @param {Name} drawing */
   restore(drawing) {
+    this.coming.add(nameOf(drawing));
     this.keep(this.session.restore(drawing, this.page), true, drawing);
   }
 
@@ -121,13 +136,26 @@ class Step {
     return this.deeds.filter(({ isShown }) => isShown).map(({ name }) => nameOf(name));
   }
 
-  /** Does the opposite, last deed first, and gives the step that did. */
+  /** What was drawn and is shown no more, since somebody erased it.
+   * @param {Deed} deed */
+  isErased({ name, isShown }) {
+    const { board, erased } = this.session;
+    return isShown && this.page === board.page && erased.has(nameOf(name)) && !this.coming.has(nameOf(name));
+  }
+
+  /** Whether there is nothing left to take back. */
+  async isMoot() {
+    await Promise.all(this.asked);
+    return this.deeds.length > 0 && this.deeds.every((deed) => this.isErased(deed));
+  }
+
+  /** Does the opposite, last deed first, and gives the step that did. What is erased already is left alone. */
   async reversed() {
     await Promise.all(this.asked);
-    const step = new Step(this.session, this.page);
-    for (const { name, isShown } of [...this.deeds].reverse()) {
-      if (isShown) step.hide(name);
-      else step.restore(name);
+    const step = new Step(this.session, this.page, this.coming);
+    for (const deed of [...this.deeds].reverse().filter((each) => !this.isErased(each))) {
+      if (deed.isShown) step.hide(deed.name);
+      else step.restore(deed.name);
     }
     return step;
   }

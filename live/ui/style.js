@@ -16,6 +16,10 @@ const USUAL = { colour: 0, width: 2, bright: 3, broad: 6, size: 3, font: 0, isDa
 /** The widths that are offered, of strokes and of the highlighter, and points of their marks. */
 const WIDTHS = [[1, 'fine'], [2, 'normal'], [4, 'thick'], [6, 'very thick']], BROAD = [[5, 'fine'], [6, 'normal'], [7, 'thick'], [8, 'very thick']], MARKS = [5, 8, 13, 19];
 
+/** What can be chosen for each tool. */
+const LINES = ['colours', 'widths', 'looks'], /** @type {Record<string, string[]>} */ ROWS = { pen: ['colours', 'widths'], marker: ['colours', 'widths'],
+  line: LINES, arrow: LINES, frame: LINES, ellipse: LINES, note: ['colours'], text: ['colours', 'fonts'] };
+
 /** The sizes and the fonts of letters. */
 const SIZES = [[1, 'S', 'small'], [3, 'M', 'middle'], [5, 'L', 'large'], [7, 'XL', 'very large']], FONTS = [[0, 'Aa', 'plain'], [2, 'x²', 'formula'], [1, '{}', 'code']];
 
@@ -24,15 +28,20 @@ export class Style {
   constructor(board) {
     this.board = board;
     /** @type {Look} */
+    $('style-open').addEventListener('click', () => this.open(!$('style').classList.contains('open')));
+    $('sheet').addEventListener('pointerdown', () => this.open(false));
     this.look = { ...USUAL, ...JSON.parse(localStorage.getItem(KEPT) ?? '{}') };
   }
 
-  /** @param {Partial<Look>} change */
+  /** Chooses something for the tool in hand; where ink is selected, that becomes so.
+   * @param {Partial<Look>} change */
   set(change) {
+    if (this.board.changing.isOn) return this.board.changing.restyle(change);
     this.board.pen.flush();
     Object.assign(this.look, change);
     localStorage.setItem(KEPT, JSON.stringify(this.look));
     this.show();
+    return undefined;
   }
 
   /** Chooses a colour for the tool in hand: of the highlighter and of notes it is another.
@@ -56,9 +65,40 @@ export class Style {
     return BRIGHT[colour] ?? this.tintOf(colour);
   }
 
-  /** Shows what can be chosen for the tool in hand. */
+  /** The rows of what can be chosen for the tool in hand, or for what is selected, and how that looks.
+   * @returns {{ rows: string[], look: Look, isMarker: boolean }} */
+  offered() {
+    const { hand, changing } = this.board, { tool } = hand;
+    if (!changing.isOn) return { rows: ROWS[tool] ?? [], look: this.look, isMarker: tool === 'marker' };
+    const items = hand.chosenItems(), [{ colour = 0, width = 0, flag = 0, kind = '' } = {}] = items, has = (/** @type {string} */ kinds) => items.some((item) => kinds.includes(item.kind) && item.kind.length === 1);
+    const look = { colour, bright: colour, width, broad: width, size: width, font: kind === 't' ? flag : 0, isDashed: Boolean(flag & 4), fill: flag & 3 };
+    const rows = [...has('svhlrodnt') ? ['colours'] : [], ...has('svhlrod') ? ['widths'] : [], ...has('t') ? ['fonts'] : [], ...has('lrod') ? ['looks'] : []];
+    return { rows, look, isMarker: items.every((item) => item.kind === 'h') };
+  }
+
+  /** On a narrow window one button has the colour and the width, and opens the rows.
+   * @param {number} colour @param {any[][]} widths @param {number} width @param {boolean} isBright */
+  showButton(colour, widths, width, isBright) {
+    const button = $('style-open'), at = Math.max(0, widths.findIndex(([each]) => each === width));
+    button.style.setProperty('--c', isBright ? BRIGHT[colour] : this.tintOf(colour));
+    button.style.setProperty('--w', `${MARKS[at] + 7}px`);
+    button.setAttribute('aria-label', `Colour and width: ${COLOURS[colour]}, ${widths[at][1]}`);
+  }
+
+  /** Opens or closes the rows on a narrow window.
+   * @param {boolean} is */
+  open(is) {
+    $('style').classList.toggle('open', is);
+    $('style-open').setAttribute('aria-expanded', String(is));
+  }
+
+  /** Shows what can be chosen. */
   show() {
-    const { look } = this, bar = $('style'), isBright = this.isBright(), isMarker = this.board.hand.tool === 'marker';
+    const { rows, look, isMarker } = this.offered(), bar = $('style'), isBright = this.isBright();
+    bar.hidden = !rows.length && this.board.painter.isInk;
+    this.showButton(isBright ? look.bright : look.colour, isMarker ? BROAD : WIDTHS, isMarker ? look.broad : look.width, isBright);
+    for (const row of ['colours', 'widths', 'fonts', 'looks']) bar.querySelector(`.${row}`).hidden = !rows.includes(row);
+    bar.querySelector('.bar').hidden = rows.length < 2;
     /** @param {string} row @param {any[]} buttons */
     const fill = (row, buttons) => refill(bar.querySelector(row), buttons);
     fill('.colours', OFFERED.map((colour) => {

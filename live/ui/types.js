@@ -10,15 +10,20 @@
 /** @typedef {{ lose: number, delay: number, twice: number, mix: boolean }} Worse */
 /** Which member this is, and what it says of itself.
  * @typedef {{ me: number, mode: string, notice: string, ready: boolean, teach: boolean, cells?: number, twin?: boolean, worsen?: Worse,
- *   proof?: Proof }} Hello
+ *   proof?: Proof, clears?: boolean, othersClear?: boolean }} Hello   clears: whether this member's windows may clear pages; othersClear: of the
+ *   window of who keeps the board, whether those of others may
  * @typedef {{ proved: boolean, text: string, progress: string, crates: number, many: number }} Proof   of the program that the member runs by */
+/** A drawing that is hidden: who erased it, under which number and when, and the operation of the number before, if that was within a second.
+ * @typedef {Drawing & { erased?: [number, number, string, string | null] | null }} Erased */
 /** The page in view: what it shows in the order of painting, what was deleted, and its rows as the host painted them.
- * @typedef {{ page: string, drawops: Drawing[], hidden: Drawing[], rows: string[] }} Board */
+ * @typedef {{ page: string, drawops: Drawing[], hidden: Erased[], rows: string[] }} Board */
 /** What changed of it: the names of what goes, hidden or shown; what is shown now, each with its place, in the order of putting in; what is
  * hidden now; and the rows that are others.
- * @typedef {{ page: string, names: [number, number][], added: [number, Drawing][], hidden: Drawing[], rows: Record<number, string>,
+ * @typedef {{ page: string, names: [number, number][], added: [number, Drawing][], hidden: Erased[], rows: Record<number, string>,
  *   height: number }} Change */
-/** @typedef {{ page: string, pages: { page: string, drawn: number }[] }} Pages */
+/** A page of the session, in the order in which all number them: how many drawops it has, and when something was drawn there or restored last.
+ * @typedef {{ page: string, drawn: number, last?: string }} Leaf
+ * @typedef {{ page: string, pages: Leaf[] }} Pages */
 /** Another member: the delay to it in milliseconds, and how many seconds ago it was heard.
  * @typedef {{ member: number, delay?: number | null, heard?: number | null, page?: string | null }} Other */
 /** @typedef {{ members: Other[] }} Members */
@@ -36,12 +41,15 @@
  * @typedef {[number, number, string, boolean]} Scene */
 
 /** What a member says to something that it was asked: a drawing's name, the address of a board, or why not.
- * @typedef {{ ok: boolean, fault?: string, source?: number, seq?: number, address?: string }} Reply */
+ * @typedef {{ ok: boolean, fault?: string, status?: number, source?: number, seq?: number, page?: string, address?: string }} Reply */
+
+/** Whether the member answers, does not, or has another address now.
+ * @typedef {'open' | 'lost' | 'gone'} Link */
 
 /** What a board needs of the member behind it, over HTTP or in a worker of the page. `subscribe` is called once; from then on
  * `hear` is given each state as it changes, by its name: `hello`, `board`, `pages`, `members`, `health` and `wire`, with the
- * types above; `change` in the place of `board` where only a part of the page in view is another; `link` with a boolean, whether the member
- * answers; and `gone`, where it was started anew and this page can't reach it. What stands in brackets is not asked of every member.
+ * types above; `change` in the place of `board` where only a part of the page in view is another; `link` with a `Link`; and `unsent`, how many
+ * drawings wait for a member that does not answer. What stands in brackets is not asked of every member.
  * @typedef {object} Member
  * @property {(hear: (name: string, news: any) => void) => void} subscribe
  * @property {(page: string, operation: string) => Promise<Reply>} draw   one drawing line, such as `line 0 0 4 4 *`
@@ -54,6 +62,7 @@
  *   what is begun; they hear it as the state `presence`, which has `others`
  * @property {(change: { at?: number, speed?: number, stopped?: boolean }) => Promise<Reply>} [film]   jumps, goes faster, stops or goes on,
  *   where the states `scenes` and `film` are told
+ * @property {(others: boolean) => Promise<Reply>} [clearing]   whether windows of others may clear pages, where `hello.othersClear` is told
  * @property {(session: string) => Promise<Reply>} [next]   begins or joins the session of this name, and gives the address of its page */
 
 export {};

@@ -28,7 +28,7 @@ export class Typing {
     this.box.addEventListener('blur', () => this.end(true));
     this.box.addEventListener('keydown', (event) => this.key(event));
     board.view.onMove(() => this.place());
-    board.session.on('board', (_, { isTurned }) => isTurned && this.end(false));
+    board.session.on('board', (_, { isTurned }) => isTurned && this.end(true));
   }
 
   // ---- what is begun
@@ -117,24 +117,25 @@ export class Typing {
 
   // ---- what becomes of it
 
-  /** @param {boolean} sends whether what was typed is drawn */
+  /** @param {boolean} sends whether what was typed is drawn, on the page where it was typed */
   end(sends) {
-    const { typed, box, board: { session, hand } } = this;
+    const { typed, box, board: { hand } } = this;
     this.typed = null;
     box.hidden = true;
-    if (!typed || !sends || typed.page !== session.board.page) return;
-    if ('letters' in typed) this.drawLetters(typed.letters);
-    else hand.change(writing(plainOf(box.value).plain, typed.cell), []);
+    if (!typed || !sends) return;
+    if ('letters' in typed) this.drawLetters(typed.letters, typed.page);
+    else hand.change(writing(plainOf(box.value).plain, typed.cell), [], { page: typed.page });
   }
 
   /** Draws what was typed as ink, in the place of what stood there. An address alone becomes a link.
-   * @param {Letters} letters */
-  drawLetters({ kind, colour, width, flag, points, was, old }) {
+   * @param {Letters} letters @param {string} page */
+  drawLetters({ kind, colour, width, flag, points, was, old }, page) {
     const text = this.box.value.trimEnd(), look = { colour, width }, [at] = points, link = kind === 't' ? writeLink(look, at, text.trim()) : null;
-    if (old.length && text === was.trimEnd()) return;
+    // a note without letters is none
+    if ((old.length ? text === was.trimEnd() : kind === 'n' && !text)) return;
     const shape = kind === 'n' ? [at, this.cornerOf({ kind, colour, width, flag, points, was, old })] : points;
     const texts = link ? [link] : isClosed(kind) ? writeShape(kind, look, flag, shape, text) : writeWords(look, flag, at, text);
-    this.board.hand.change(texts.map((each) => placed(each, 0)), old);
+    this.board.hand.change(texts.map((each) => placed(each, 0)), old, { page, isAgain: old.length > 0 });
   }
 
   /** Says at once which letters cells don't have. They stay until Enter shows what would be drawn in their place. */

@@ -39,6 +39,8 @@ export class View {
     this.rows = 1;
     this.width = sheet.clientWidth;
     this.height = sheet.clientHeight;
+    /** Points of the screen within which the hand takes what is drawn. */
+    this.reach = 7;
     /** When the cells last became larger or smaller. */
     this.sizedAt = -Infinity;
     /** @type {(() => void)[]} */
@@ -142,6 +144,21 @@ export class View {
     this.goTo((box.x0 + box.x1) / 2 / CELL_WIDE - (edge.left + across / 2) / this.wide, (box.y0 + box.y1) / 2 / CELL_HIGH - (edge.top + down / 2) / this.high);
   }
 
+  /** What is in view, in units.
+   * @returns {import('./inkpaint.js').Box} */
+  boxInUnits() {
+    const [x0, y0] = [this.left * CELL_WIDE, this.top * CELL_HIGH];
+    return { x0, y0, x1: x0 + this.columns * CELL_WIDE, y1: y0 + this.rows * CELL_HIGH };
+  }
+
+  /** Shows all of a box in units in the middle, as large as there is room.
+   * @param {import('./inkpaint.js').Box} box */
+  showBox({ x0, y0, x1, y1 }) {
+    const wide = Math.min((this.width * CELL_WIDE) / (x1 - x0), (this.height * CELL_HIGH) / (y1 - y0) / TALL);
+    if (Math.abs(wide - this.wide) > this.wide / 1000) this.setSize(wide);
+    this.goTo((x0 + x1) / 2 / CELL_WIDE - this.columns / 2, (y0 + y1) / 2 / CELL_HIGH - this.rows / 2);
+  }
+
   /** Shows the page's corner. */
   home() {
     this.goTo(-CORNER.across / this.wide, -CORNER.down / this.high);
@@ -158,11 +175,13 @@ export class View {
     this.listeners.forEach((hear) => hear());
   }
 
-  /** Brings a cell into view, at least some cells from the edges.
+  /** Brings a cell into view, at least some cells from the edges; whether the view had to move.
    * @param {Cell} cell @param {number} [by] */
   reveal({ x, y }, by = 1) {
     const left = clamp(this.left, x - Math.floor(this.columns) + 1 + by, x - by);
     const top = clamp(this.top, y - Math.floor(this.rows) + 1 + by, y - by);
-    if (left !== this.left || top !== this.top) this.goTo(left, top);
+    const isElsewhere = left !== this.left || top !== this.top;
+    if (isElsewhere) this.goTo(left, top);
+    return isElsewhere;
   }
 }

@@ -16,7 +16,9 @@ export class Welcome {
     this.board = board;
     this.colour = 0;
     this.isBegun = false;
+    this.me = 0;
     board.session.on('board', () => this.begin());
+    board.session.on('hello', ({ me }) => this.follow(me));
     board.session.on('film', () => { this.isBegun = true; });
     $('welcome').addEventListener('close', () => this.take());
     $('my-name').addEventListener('click', () => this.ask());
@@ -32,6 +34,14 @@ export class Welcome {
       if (kept) this.tell(kept, Number(localStorage.getItem(COLOUR)));
       else if (localStorage.getItem(ASKED) !== 'no' && !document.querySelector('dialog[open]')) this.ask();
     }, PAUSE);
+  }
+
+  /** One's name goes along to another number.
+   * @param {number} me */
+  follow(me) {
+    const kept = localStorage.getItem(NAME), isOther = this.isBegun && this.me !== me;
+    this.me = me;
+    if (isOther && kept) this.tell(kept, Number(localStorage.getItem(COLOUR)));
   }
 
   ask() {

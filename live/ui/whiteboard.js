@@ -1,20 +1,27 @@
 /** The whiteboard over any member: puts the parts of the page together. */
 import { nameOf } from './cells.js';
+import { Changing } from './changing.js';
 import { showChat } from './chat.js';
 import { listenToClipboard } from './clipboard.js';
 import { $, say, tell } from './dom.js';
 import { Faces } from './faces.js';
 import { Files } from './files.js';
 import { FilmBar } from './film.js';
+import { Follow } from './follow.js';
 import { Hand, middleOf } from './hand.js';
+import { History, kindOf } from './history.js';
 import { itemAt } from './inkfind.js';
 import { reachOf } from './eraser.js';
+import { stayAbove } from './keyboard.js';
 import { keysOf } from './keymap.js';
 import { Keys } from './keys.js';
 import { Layout } from './layout.js';
-import { kindOf, showHealth, showHidden, showMembers, showWorse } from './members.js';
+import { Leafing } from './leafing.js';
+import { showHealth, showMembers, showWorse } from './members.js';
 import { NOTES, Notes } from './notes.js';
 import { Others } from './others.js';
+import { Owner } from './owner.js';
+import { Overview } from './overview.js';
 import { Painter } from './painter.js';
 import { showPages } from './pages.js';
 import { makePalette } from './palette.js';
@@ -53,15 +60,22 @@ export class Whiteboard {
     this.style = new Style(this);
     this.pen = new Pen(this);
     this.hand = new Hand(this);
+    this.changing = new Changing(this);
     this.painter.parts = this;
+    this.steps.itemOf = (drawing) => (this.painter.isInk && this.ink.kept.itemOf(drawing.source, drawing.seq)?.drawings) || [drawing];
     this.typing = new Typing(this);
     this.pointing = new Pointing(this.view, this.hand);
     this.traffic = new Traffic(this.session);
     this.files = new Files(this);
+    this.leafing = new Leafing(this);
+    this.overview = new Overview(this);
+    this.history = new History(this);
     this.others = new Others(this);
+    this.owner = new Owner(this);
     this.film = new FilmBar(this.session, this.painter);
     this.sight = new Sight(this);
     this.faces = new Faces(this);
+    this.follow = new Follow(this);
     this.side = new Side(this);
     this.state = new State(this);
     this.welcome = new Welcome(this);
@@ -114,6 +128,9 @@ export class Whiteboard {
   takeHello(hello) {
     $('notice').textContent = `${hello.notice} You are member ${hello.me}; ${hello.mode}.`;
     showProof(hello.proof);
+    for (const id of ['clear', 'delete-page']) $(id).disabled = !this.session.mayClear;
+    $('clearing').hidden = hello.othersClear === undefined;
+    $('others-clear').checked = hello.othersClear !== false;
   }
 
   /** @param {import('./types.js').Board} board @param {Taken} taken */
@@ -149,6 +166,7 @@ export class Whiteboard {
   changePage(board) {
     this.hand.gesture = null;
     this.sight.begin();
+    this.follow.goAfter();
     this.leaveNotes(board.page);
     say(`${this.session.titleOf(board.page)}, ${board.drawops.length} drawings`);
   }
@@ -169,7 +187,7 @@ export class Whiteboard {
   }
 
   undo() {
-    if (!this.pen.undo()) this.steps.undo();
+    if (!this.changing.drop() && !this.pen.undo()) this.steps.undo();
   }
 
   /** Erases all that the page shows, as one step. */
@@ -189,10 +207,11 @@ export class Whiteboard {
 
   /** Has the buttons, the keys and the system's wishes heard. */
   listen() {
-    const keys = keysOf(this), undo = () => this.undo(), redo = () => this.steps.redo(), menu = ['clear', 'restore-tool', 'help', 'entitle'];
+    const keys = keysOf(this), undo = () => this.undo(), redo = () => this.steps.redo(), menu = ['clear', 'restore-tool', 'help', 'entitle', 'copy-page', 'delete-page'];
     /** @type {Record<string, () => void>} */
     const clicks = { glyph: this.openPalette, undo, redo, back: keys['['], forth: keys[']'], new: () => this.session.goToPage(null), help: keys['?'],
-      all: () => this.files.showAll(), file: () => $('files').showModal(), smaller: keys['-'], larger: keys['+'], clear: () => this.clear() };
+      all: () => this.overview.show(), file: () => $('files').showModal(), smaller: keys['-'], larger: keys['+'], clear: () => this.clear(),
+      'copy-page': () => this.leafing.copy(this.session.board.page), 'delete-page': () => this.leafing.remove(this.session.board.page) };
     menu.forEach((id) => $(id).addEventListener('click', () => $('files').close()));
     for (const [id, act] of Object.entries(clicks)) $(id).addEventListener('click', () => act());
     for (const button of document.querySelectorAll('[data-tool]')) {
@@ -203,12 +222,13 @@ export class Whiteboard {
       const is = /** @type {HTMLElement} */ (event.target).closest?.('[data-tool], .pages button, #style button, #foot button:not(#state)');
       if (event.detail && is && !document.querySelector('dialog[open]')) this.focusSheet();
     }, true);
+    $('others-clear').addEventListener('change', () => this.session.member.clearing?.($('others-clear').checked));
     this.view.sheet.addEventListener('dblclick', (event) => this.edit(event));
     listenToClipboard(this.hand, () => this.place());
+    stayAbove(this);
     new Keys(this.view, this.hand, this.pointing, { keys, undo, redo, describe: (cell) => this.describe(cell) });
-    addEventListener('beforeprint', () => this.sight.fitPrint());
     this.painter.night.addEventListener('change', () => this.changeColours());
-    new ResizeObserver(() => this.view.resize()).observe($('sheet'));
+    new ResizeObserver(() => { this.view.resize(); this.follow.goAfter(); }).observe($('sheet'));
   }
 
   focusSheet() {
@@ -235,12 +255,11 @@ export class Whiteboard {
     const { session } = this;
     session.on('hello', (hello) => this.takeHello(hello));
     session.on('board', (board, taken) => this.takeBoard(board, taken));
-    session.on('link', (is) => is || say('Offline: what you draw is not sent'));
     session.on('ghosts', () => this.painter.soon());
     session.on('notes', ({ colours }) => this.takeColours(colours));
     session.on('fault', tell);
     this.ink.changed = () => { this.sight.show(); this.showText(); };
-    for (const show of [showChat, showMembers, showHealth, showHidden, showWorse]) show(this);
+    for (const show of [showChat, showMembers, showHealth, showWorse]) show(this);
     showPages(session);
     this.listen();
     this.hand.choose('pen');

@@ -15,7 +15,7 @@ import { Telling } from '../../web/member/telling.js';
 import { drawopOf } from '../../web/member/views.js';
 import { Wire } from '../../web/member/wire.js';
 import { check } from '../check.mjs';
-import { datagramOf } from './worded.mjs';
+import { datagramOf, drawOn } from './worded.mjs';
 
 const SECOND = 1_000_000, [X, Y, Z] = ['x', 'y', 'z'].map((place) => ({ place, owner: null }));
 
@@ -83,7 +83,7 @@ function memberOf({ isReady = true, cells = 1_000, strange = [] } = {}) {
   const member = { me: 1, page: '7/1', isReady, drawn: new Drawn(), alarms: new Alarms(), wire: new Wire(), host, record, sent, ticks, at: 0 };
   const board = new Board(null, record, { rate: 4_000, many: NEAR }, { here: null, strangers: null }, (drawop) => member.hold(drawop));
   Object.assign(board, { host, me: 1, cells, readyAt: isReady ? 0 : SECOND, strange: new Set(strange), wall: Date.now() * 1_000, now: () => member.at });
-  Object.assign(member, { board, hold: (drawop) => member.drawn.add(drawop), obey: (answer) => answer, begin: async () => { member.isReady = true; },
+  Object.assign(member, { board, hold: (drawop) => member.drawn.add(drawop), obey: (answer) => answer, wake: () => {}, mayPart: () => false, begin: async () => { member.isReady = true; },
     tick: async () => { ticks.push(member.at); }, send: (bytes) => { sent.push(hex(bytes)); return readDatagram(bytes); } });
   member.telling = new Telling(member, (name, news) => { member[name] = news; });
   member.people = new People(member);
@@ -164,7 +164,7 @@ async function testWarnings() {
   check('nobody has our number', member.judging.hasTwin, false);
   member.says('dropped own', 'warn twin');
   await heed(member, 'session-message 1 77 7/1 1@5+10');
-  check('a twin lasts, and nothing is drawn', [member.judging.hasTwin, await member.people.drawNow('7/1', 'line 0 0 1 1 *').catch(({ message }) => message)], [true, 'another member has our number: take a new one']);
+  check('a twin lasts, and nothing is drawn', [member.judging.hasTwin, await drawOn(member, '7/1', 'line 0 0 1 1 *').catch(({ message }) => message)], [true, 'another member has our number: take a new one']);
 }
 
 /** A member's copy of what is held is dropped, since it would hush us. If it differs from what is held, people are warned all the same. */
@@ -255,6 +255,16 @@ async function testMoves() {
   check('it has left', [present(), judging.heard.isMember(Y)], [[], false]);
 }
 
+/** Nobody is nearer than here, though a clock gains. */
+async function testNear() {
+  const member = memberOf(), { judging, host, board } = member;
+  board.moment = member.at = 25;
+  member.says();
+  host.members(`9 ${wordOf(X)} 25 25`);
+  await heed(member, 'session-message 9 77 7/1 1@5+25', X);
+  check('it is as near as can be', judging.present().map(([, { delay }]) => delay), [0]);
+}
+
 /** The member tells its host other constants in the next turn, when a fourth other is heard, and when all are gone. */
 async function testFollowed() {
   const member = memberOf(), { judging, board, host } = member, tunings = () => host.told.filter((line) => line.startsWith('tuning'));
@@ -302,11 +312,11 @@ async function testTime() {
   await heed(member, 'ask-pages 8');
   check('then it is told, once', [host.told.map((line) => line.split(' ', 2).join(' ')), board.isWrong()], [['came 0', 'wall 2000000', 'came 2000000'], false]);
   host.said.add = ['record tick 2000000', `record say ${drawing(1, 1)}`, 'drew 7 1 1 1', `send ${ours}`, `send ${ours.replace('00000001', '00000008')}`, 'became new'];
-  check('a drawing', [await people.drawNow('7/1', 'line 0 0 1 1 *'), member.sent, member.drawn.total], [{ source: 1, seq: 1 }, [ours, ours.replace('00000001', '00000008')], 1]);
+  check('a drawing', [await drawOn(member, '7/1', 'line 0 0 1 1 *'), member.sent, member.drawn.total], [{ source: 1, seq: 1 }, [ours, ours.replace('00000001', '00000008')], 1]);
   check('what the host was told', host.told.slice(-2).map((line) => line.replace(/\d{9,}/, 'WALL')), ['wall 2000000 WALL', 'add 2000000 7/1 line 0 0 1 1 *']);
   check('the drawing is what the record has, and not what is repaired besides', [await member.record.lines(), judging.tails.take(9 * SECOND).map(hex)], [['tick 2000000', `say ${drawing(1, 1)}`], [ours]]);
   host.said.add = ['became left'];
-  check('where there is no room', await people.drawNow('7/1', 'line 0 0 1 1 *').catch(({ message }) => message), 'full');
+  check('where there is no room', await drawOn(member, '7/1', 'line 0 0 1 1 *').catch(({ message }) => message), 'full');
 }
 
 /** How full the board is. */
@@ -330,7 +340,7 @@ async function testKeptCells() {
     const found = [];
     for (const operation of operations) {
       drawn.total = total;
-      found.push(await people.drawNow(page, operation).then(() => 'drawn', ({ message }) => message));
+      found.push(await drawOn(member, page, operation).then(() => 'drawn', ({ message }) => message));
     }
     return found;
   };
@@ -344,12 +354,12 @@ async function testKeptCells() {
 /** Until the member may draw, 1,024 drawings wait. */
 async function testWaiting() {
   const member = memberOf({ isReady: false }), { host, people } = member;
-  member.wake = () => {};
   host.said.add = [`record say ${drawing(1, 1)}`, 'drew 1 7 1 1', 'became new'];
   const fates = Array.from({ length: 1_025 }, () => people.draw('7/1', 'line 0 0 1 1 *').then(({ seq }) => seq, ({ message }) => message));
   for (const call of people.calls.splice(0)) await call();
   check('one more is refused at once', [people.draws.length, await fates.pop()], [1_024, 'busy']);
-  await people.begin();
+  member.isReady = true;
+  await people.drawAll();
   check('then all that waited are drawn', [people.draws.length, [...new Set(await Promise.all(fates))]], [0, [1]]);
 }
 
@@ -395,8 +405,8 @@ async function testPages() {
   for (const name of [...names.slice(0, 900), '9 9/2 1', '1 5/1 1']) drawn.add(drawopOf(`draw ${name} 5 line 0 0 1 1 *`));
   telling.reported.tell({ source: 9, page: '6/1', seq: 1 });
   await telling.tellPages();
-  check('the page in view, ours, and those of members and of which they tell', [member.pages.page, member.pages.pages.slice(0, 4).map((one) => one.page)], ['7/1', ['5/1', '6/1', '7/1', '9/2']]);
-  check('then those of strangers', [member.pages.pages.length, member.pages.pages.at(-1), host.told], [904, { page: '0/900', drawn: 1 }, []]);
+  check('the page in view, ours, and those of members and of which they tell', [member.pages.page, member.pages.pages.slice(0, 4).map((one) => one.page)], ['7/1', ['5/1', '9/2', '6/1', '7/1']]);
+  check('then those of strangers', [member.pages.pages.length, member.pages.pages.at(-1), host.told], [904, { page: '0/900', drawn: 1, last: '5' }, []]);
   for (const name of names) drawn.add(drawopOf(`draw ${name} 5 line 0 0 1 1 *`));
   host.said.list = ['list 1000', '1 5/1 1'.replace('/', ' '), '9 2 1', ...names.slice(501).map((name) => name.split(' ')[1].replace('/', ' ') + ' 1')];
   await telling.tellPages();
@@ -448,7 +458,7 @@ async function testMembers() {
   check('by their numbers', [member.members.members.length, member.members.members.slice(-2)], [500, [{ member: 500, delay: null, heard: 0 }, { member: 900, delay: 0.002, heard: 0 }]]);
 }
 
-const TESTS = [testOrigins, testReports, testWarnings, testClash, testRefused, testRecord, testHeard, testMoves, testFollowed, testPatience, testTime, testRoom, testKeptCells, testWaiting, testNewPage, testLast, testPages, testHealth, testShowings, testMembers];
+const TESTS = [testOrigins, testReports, testWarnings, testClash, testRefused, testRecord, testHeard, testMoves, testNear, testFollowed, testPatience, testTime, testRoom, testKeptCells, testWaiting, testNewPage, testLast, testPages, testHealth, testShowings, testMembers];
 
 export async function testJudging() {
   for (const test of TESTS) await test();

@@ -13,6 +13,7 @@ import { FIRST_LINE, Record, actsOf } from '../../web/member/record.js';
 import { drawopOf } from '../../web/member/views.js';
 import { check } from '../check.mjs';
 import { testShowing } from './showing.mjs';
+import { drawAll, drawOn } from './worded.mjs';
 
 const file = process.env.WB_MODULE, PAGE = '1/1', SECOND = 1_000_000;
 const BEYOND = 0x7fff0000; // a place beyond the end of the memory, where a call traps
@@ -128,7 +129,8 @@ async function testClock(program) {
 async function testDraw(program) {
   const record = new Record(null, 'here', 1), { board, held } = await boardOf(program, record);
   const before = Date.now() * 1_000, { drawop, block } = await board.draw(PAGE, 'line 0 0 4 0 +');
-  check('a drawing of ours', [drawop.words.replace(drawop.time, 'now'), block.sent().map((bytes) => readDatagram(bytes).words), held.length], ['draw 1 1/1 1 now line 0 0 4 0 +', [drawop.words], 1]);
+  check('a drawing of ours', [drawop.words.replace(drawop.time, 'now'), block.sent().map((bytes) => readDatagram(bytes).words), held.length], ['draw 1 1/1 1 now line 0 0 4 0 +', [drawop.words], 0]);
+  check('is told once it is on the disk', [await board.settle([drawop]), held.length], [[drawop], 1]);
   check('at the time of day', Math.abs(drawop.time - before) < SECOND, true);
   await board.tellTime(drawop.time - SECOND);
   check('one of an earlier time lies above it', (await board.draw(PAGE, 'text 0 0 "a b"')).drawop.time, drawop.time + 1);
@@ -143,15 +145,29 @@ async function testDraw(program) {
 /** What the record can't have, the host does not have either. */
 async function testNoRoom(program) {
   const record = new Record(null, 'here', 1), { board, held } = await boardOf(program, record), { write } = record;
-  await board.draw(PAGE, 'line 0 0 4 0 +');
+  const draw = async (operation) => (await board.settle([(await board.draw(PAGE, operation)).drawop])).map(({ seq }) => seq);
+  await draw('line 0 0 4 0 +');
   record.write = async () => { record.fault = 'no room'; };
+  check('a drawing for which the record has no room is not settled', [await draw('line 0 1 4 1 +'), record.waiting], [[], []]);
   const faults = [];
-  for (let i = 0; i < 3; i += 1) await board.draw(PAGE, 'line 0 1 4 1 +').catch((fault) => faults.push(fault instanceof NoRoom && fault.message));
-  check('a drawing for which the record has no room is refused, as often as it is tried', faults, ['no room', 'no room', 'no room']);
+  for (let i = 0; i < 2; i += 1) await draw('line 0 1 4 1 +').catch((fault) => faults.push(fault instanceof NoRoom && fault.message));
+  check('and refused from then on', faults, ['no room', 'no room']);
   check('the host does not have it either', [await nextOf(board), (await viewOf(board)).length, board.ends.length], [2, 1, 0]);
   record.write = write;
-  check('with room one draws on, by the next number', (await board.draw(PAGE, 'line 0 1 4 1 +')).drawop.seq, 2);
+  check('with room one draws on, by the next number', await draw('line 0 1 4 1 +'), [2]);
   check('and the record has it once', [(await record.lines()).filter((line) => line.startsWith('say ')).length, new Set(held.map(({ name }) => name)).size], [2, 2]);
+}
+
+/** Drawings that wait together are in the record by one transaction, before any is sent; if the disk does not take it, none is drawn or sent. */
+async function testOneSync(program) {
+  const member = await quietOf(program), { record } = member.board, { write } = record, order = [], operations = [0, 1, 2].map((row) => `line 0 ${row} 4 ${row} +`);
+  const isDrawing = ({ kind }) => kind === 'draw', fates = async () => (await drawAll(member, PAGE, ...operations)).map(({ value, reason }) => value?.seq ?? reason.message);
+  record.write = () => { if (record.waiting.some((line) => line.startsWith('say '))) order.push(member.sent.filter(isDrawing).length); return write.call(record); };
+  check('three drawings', [await fates(), member.sent.filter(isDrawing).length], [[1, 2, 3], 3]);
+  check('were written at once, and then sent', order, [0]);
+  record.write = async () => { record.fault = 'a disk that fails'; };
+  check('three that the disk does not take', await fates(), Array(3).fill('a disk that fails: nothing is drawn until there is room'));
+  check('are not sent, held, or numbered', [member.sent.filter(isDrawing).length, member.drawn.total, await nextOf(member.board)], [3, 3, 4]);
 }
 
 async function testEnds(program) {
@@ -257,7 +273,7 @@ async function testOwnMarks(program) {
   await member.begin();
   check('after it none changes anything, and it is told', [await told(program, member, 'x', 'page-state 9 1/1 1=70000'), (await marks()).length, member.alarms.told()],
     [[null], 2, ['a report tells of a drawing of ours that we did not make']]);
-  check('we count on from what was kept', (await member.people.drawNow(PAGE, 'line 0 0 1 1 *')).seq, 65_537);
+  check('we count on from what was kept', (await drawOn(member, PAGE, 'line 0 0 1 1 *')).seq, 65_537);
 }
 
 async function testRoom(program) {
@@ -268,7 +284,7 @@ async function testRoom(program) {
   check('who answers is none, nor what he gave', [member.board.strange.size, (await member.board.record.lines()).filter((line) => line.startsWith('datagram ')).length], [0, 16]);
   await told(program, member, 'x', ...drawings(7, 17, 969));
   check('a full board takes no drawing, and a delete alone', [member.drawn.total, await told(program, member, 'x', ...drawings(7, 970, 970), 'draw 7 1/1 971 5 delete 7 1')], [969, ['the board is full', null]]);
-  const fault = (operation) => member.people.drawNow('0/0', operation).then(() => 'none', ({ message }) => message);
+  const fault = (operation) => drawOn(member, '0/0', operation).then(() => 'none', ({ message }) => message);
   check('nor do we draw', [await fault('line 0 0 1 1 *'), await fault('delete 7 2')], ['full', 'none']);
   check('and people hear of it', member.alarms.told().slice(-1), ['the board is full: drawings of member 7 are not kept']);
   await reportOf(member);
@@ -298,9 +314,9 @@ async function testTime(program) {
   check('members that draw ahead are believed', await told(program, member, 'x', ahead(8, 1, 86_000), ahead(9, 1, 86_000)), [null, null]);
   check('not by over a day', await told(program, member, 'x', ahead(9, 2, 86_460)), ['ahead of the clock']);
   check('no stranger by two minutes', await told(program, member, 'z', ahead(7, 1, 120), ahead(7, 1, 30)), ['ahead of the clock', null]);
-  const { seq } = await member.people.drawNow('5/1', 'line 0 0 1 1 *');
+  const { seq } = await drawOn(member, '5/1', 'line 0 0 1 1 *');
   check('our time is ours', Math.abs(member.drawn.find(`1 5/1 ${seq}`).time - Date.now() * 1_000) < SECOND, true);
-  await member.people.drawNow(PAGE, 'line 0 0 1 1 *');
+  await drawOn(member, PAGE, 'line 0 0 1 1 *');
   check('and what we draw lies above theirs', (await viewOf(member.board)).at(-1).source, 1);
 }
 
@@ -311,7 +327,7 @@ async function testNames(program) {
   check('a number is his who speaks first under it', await toldBy(program, member, bob, 'session-message 2 5 1/1'), [null]);
   const forged = ['session-message 2 6 1/1', `session-message 2 7 1/1 1@${moment}+0`, 'page-state 2 1/1 2=900', 'request 2 1 1/1 1', 'ask-pages 2', `session-message 1 77 1/1 1@${moment}+0`, 'page-state 1 1/1 1=9'];
   check('another name does not speak under it, or under ours', await toldBy(program, member, eve, ...forged), forged.map(() => refused));
-  check('nobody takes that for a member who has our number', [member.judging.hasTwin, (await member.people.drawNow(PAGE, 'line 0 0 1 1 *')).seq], [false, 1]);
+  check('nobody takes that for a member who has our number', [member.judging.hasTwin, (await drawOn(member, PAGE, 'line 0 0 1 1 *')).seq], [false, 1]);
   check('people hear of it', member.alarms.told(), [2, 1].map((number) => `somebody else speaks under the number of member ${number}: that is not heeded`));
   check('he goes on under his number', await toldBy(program, member, bob, `session-message 2 8 1/1 1@${moment}+0`), [null]);
   check('what he drew may come of any member', await toldBy(program, member, eve, ...drawings(2, 1, 1), `session-message 3 5 1/1 1@${moment}+0`, ...drawings(2, 1, 1)), [refused, null, null]);
@@ -320,13 +336,13 @@ async function testNames(program) {
 // ---- a session
 
 /** A member that loses a third of what comes, by a network of this process. */
-async function memberOf(program, network, me, record, mayHaveDrawn = false, place = me) {
+async function memberOf(program, network, me, record, mayHaveDrawn = false, place = me, more = {}) {
   const inbox = new Inbox(), told = {};
   inbox.worse = { lose: 0.33, delay: 0, twice: 0, mix: false };
   const origin = { place: `wb/${place}`, owner: null };
   const transport = { where: 'here', state: '', here: null, strangers: null, goneBy: () => origin, end: () => network.delete(place),
     send: (bytes) => { for (const [other, take] of network) if (other !== place) take(bytes, origin); } };
-  const member = new Member(program, record, me, inbox, transport, { notice: '', teach: false, start: { ...START, cells: 1_000, mayHaveDrawn } }, (name, news) => { told[name === 'change' ? 'board' : name] = name === 'change' ? changed(told.board, news) : news; });
+  const member = new Member(program, record, me, inbox, transport, { notice: '', teach: false, start: { ...START, cells: 1_000, mayHaveDrawn }, ...more }, (name, news) => { told[name === 'change' ? 'board' : name] = name === 'change' ? changed(told.board, news) : news; });
   network.set(place, (bytes, from) => member.take(bytes, from));
   await member.open();
   Object.assign(member, { told, running: member.run() });
@@ -434,5 +450,30 @@ async function testTwins(program) {
   await alone.end();
 }
 
+/** Somebody who hears us speaks under our number and echoes us. We draw on by a new one with all that is held, eight times in an hour. */
+async function testForgedTwin(program) {
+  const network = new Map(), heard = [], begun = [], eve = { place: 'wb/eve', owner: null };
+  network.set('ear', (bytes) => heard.push(readDatagram(bytes)));
+  const fresh = async () => { const me = 20 + begun.length; return { me, record: new Record(null, 'here', me) }; };
+  const member = await memberOf(program, network, 11, new Record(null, 'here', 11), false, 'a', { fresh, begun: () => begun.push(member.me) });
+  const speakFor = async (me) => {
+    heard.length = 0;
+    const isOurs = ({ kind, speaker }) => kind === 'session-message' && speaker === me;
+    await comes(() => heard.some(isOurs), 20);
+    const [, , sent] = heard.findLast(isOurs).words.split(' '), [forged] = await bytesOf(program, `session-message ${me} 9 1/1 ${me}@${sent}+1`);
+    for (let i = 0; i < 9; i += 1) member.take(forged, eve);
+  };
+  await member.people.draw(PAGE, 'line 0 0 4 0 x');
+  await speakFor(11);
+  check('a new number', [await comes(() => member.me === 20), begun, member.judging.hasTwin], [true, [20], false]);
+  check('by which one draws', await member.people.draw(PAGE, 'line 0 1 4 1 x'), { source: 20, seq: 1 });
+  check('with all that is held', [(await viewOf(member.board)).map(({ source }) => source), member.alarms.told()], [[11, 20], ['somebody else spoke under our number 11: we draw on as member 20']]);
+  member.parted = Array(8).fill(performance.now());
+  await speakFor(20);
+  check('but not so often', [await comes(() => member.judging.hasTwin), await member.people.draw(PAGE, 'line 0 2 4 2 x').catch(({ message }) => message), member.me], [true, 'another member has our number: take a new one', 20]);
+  check('until people want it', [await member.people.call(() => member.takeNumber()), (await member.people.draw(PAGE, 'line 0 2 4 2 x')).source], [{ me: 21 }, 21]);
+  await member.end();
+}
+
 const program = new Program(await WebAssembly.compile(fs.readFileSync(file)), false);
-for (const each of [testOld, testLines, testBegun, testMarks, testClock, testDraw, testShowing, testNoRoom, testEnds, testStarts, testBefore, testOwnMarks, testRoom, testPageInView, testTime, testNames, testSession, testStrangers, testTail, testTwins]) test(each.name.slice('test'.length), () => each(program));
+for (const each of [testOld, testLines, testBegun, testMarks, testClock, testDraw, testShowing, testNoRoom, testOneSync, testEnds, testStarts, testBefore, testOwnMarks, testRoom, testPageInView, testTime, testNames, testSession, testStrangers, testTail, testTwins, testForgedTwin]) test(each.name.slice('test'.length), () => each(program));

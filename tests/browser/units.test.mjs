@@ -9,6 +9,7 @@ import { newName, readInvitation, writeInvitation } from '../../web/member/invit
 import { Presence, isAside, pointOf, readGone, readPoint, writeGone, writePoint } from '../../web/member/presence.js';
 import { FIRST_LINE, Record, actsOf, isLater, keptMembers } from '../../web/member/record.js';
 import { Counters, Seal, Sealed, keyBytes, newKey, readEnvelope, writeEnvelope } from '../../web/member/seal.js';
+import { Sheet } from '../../web/member/drawn.js';
 import { drawopOf, fieldsOf, orderOfPages } from '../../web/member/views.js';
 import { Wire } from '../../web/member/wire.js';
 import { testBrokers, testPackets } from './brokers.mjs';
@@ -18,6 +19,19 @@ import { check, fault } from '../check.mjs';
 import { testJudging, testReported } from './judging.mjs';
 import { testTails } from './tails.mjs';
 import { datagramOf } from './worded.mjs';
+
+/** Who erased what, what was done just before, and when a page was begun, in any order of coming. */
+function testSheet() {
+  const lines = ['7 7/1 1 1000000 line 0 1 4 1 *', '8 7/1 1 1200000 line 0 1 4 1 *', '8 7/1 2 1300000 delete 7 1', '9 7/1 1 1400000 delete 7 1', '8 7/1 3 1500000 restore 7 1',
+    '8 7/1 4 1600000 delete 7 1', '9 7/1 2 1700000 delete 7 1', '8 7/1 5 2700000 delete 8 1', '7 7/1 2 2800000 line 0 0 1 1 *', '7 7/1 3 2900000 delete 8 1'];
+  for (const order of [lines, [...lines].reverse()]) {
+    const sheet = new Sheet(), told = (/** @type {string} */ name) => { const by = sheet.eraser(name); return by && [by.name, sheet.before(by)?.name ?? null]; };
+    order.forEach((words) => sheet.add(drawopOf(`draw ${words}`)));
+    check('the first delete after the last restore counts', [told('7 7/1 1'), told('8 7/1 1'), told('7 7/1 2')], [['8 7/1 4', null], ['8 7/1 5', null], null]);
+    check('what came before a delete', sheet.before(sheet.drawops.get('7 7/1 3')).name, '7 7/1 2');
+    check('when it was begun, and when something was drawn or restored last', [sheet.begun, sheet.last, sheet.begunBy(new Set(['7 7/1 1']))], [1000000, 2800000, 1200000]);
+  }
+}
 
 function testBlocks() {
   const taken = new Block(['send 01ff', 'batch 1 0 0 0'], 'ok 34890'), refused = new Block([], 'refused word 3');
@@ -30,6 +44,7 @@ function testWords() {
   const text = drawopOf('draw 7 7/1 3 12 text 0 2 "a \\"b\\" \\\\ c"'), line = drawopOf('draw 4294967295 7/1 65535 18446744073709551615 line 0 1 4 2 *');
   check('a text', fieldsOf(text), { source: 7, seq: 3, time: '12', op: 'text', words: text.words, x: 0, y: 2, text: 'a "b" \\ c' });
   check('a line', fieldsOf(line), { source: 4294967295, seq: 65535, time: '18446744073709551615', op: 'line', words: line.words, x0: 0, y0: 1, x1: 4, y1: 2, glyph: '*' });
+  testSheet();
   check('pages by their numbers', ['10/1', '9/2', '9/10'].sort(orderOfPages), ['9/2', '9/10', '10/1']);
 }
 
@@ -213,6 +228,8 @@ function testPresences() {
   [2, 1, 3, 2].forEach((member) => hear(member));
   hear(3, null);
   check('who points, but for ourselves', told, [[2], [2, 3], [3, 2], [2]]);
+  presence.hear(writePoint({ member: 3, page: '7/2', cell: null, begun: ['view 0 0 9 9'] }), 1);
+  check('who points nowhere and tells what is in view', presence.others.get(3)?.point.page, '7/2');
   for (let i = 0; i < 100; i += 1) hear(2);
   check('not too many of one are heeded in a second', told.length < 60, true);
   for (let member = 10; member < 200; member += 1) hear(member);
@@ -258,11 +275,14 @@ async function testRecords() {
 class Noting {
   noted = [];
 
+  durabilities = [];
+
   constructor(members = [], firsts = {}) {
     Object.assign(this, { members, firsts });
   }
 
-  transaction() {
+  transaction(_stores, mode, options) {
+    if (mode) this.durabilities.push(options?.durability);
     const transaction = new globalThis.IDBTransaction(), note = (what) => (value) => void this.noted.push([what, value]);
     const answer = (result) => {
       const request = { result };
@@ -282,6 +302,10 @@ async function testDatabase() {
   const { kept, later } = await keptMembers(/** @type {any} */ (database), 'here');
   check('the members of a session, the latest first, without those of a later build', [kept.map(({ me }) => me), later], [[6, 7, 5], 1]);
   const record = new Record(/** @type {any} */ (database), 'here', 7);
+  await record.keep(['board 7 100 1 1']);
+  for (const line of ['# started at 9', 'tick 5', 'say draw']) await record.keep([line]);
+  check('what is ours is on the disk before anything goes out', database.durabilities, ['default', 'strict', 'default', 'strict']);
+  database.noted = [];
   await record.keep(['board 7 100 1 1']);
   record.add('tick 5');
   await record.remove();

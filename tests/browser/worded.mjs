@@ -1,4 +1,19 @@
-// Datagrams from their words, for tests that have no bytes of them.
+// What tests of members share: datagrams from their words, and a drawing that nobody else waits for.
+
+/** Has a member draw in a turn, and gives what each drawing came to. */
+export async function drawAll({ people }, page, ...operations) {
+  const drawings = Promise.allSettled(operations.map((operation) => people.draw(page, operation)));
+  for (const call of people.calls.splice(0)) await call();
+  await people.drawAll();
+  return drawings;
+}
+
+/** The same of one drawing, which may be refused. */
+export async function drawOn(member, page, operation) {
+  const [{ value, reason }] = await drawAll(member, page, operation);
+  if (reason) throw reason;
+  return value;
+}
 
 /** What is read of a datagram, from its words. */
 export function datagramOf(words) {

@@ -10,7 +10,7 @@ from dataclasses import dataclass
 
 from .sources import CRATES, SPAN, TOP, crates_below, is_tests, nothing_is_wrong, rows_of, texts
 
-# a limit of docs/FORMAT.md: its row, and the constants that keep it, each with the text of the row
+# a limit of docs/PROTOCOL.md or docs/SCRIPTS.md: its row, and the constants that keep it, each with the text of the row
 LIMITS = {
     "coordinate": [("wb_names/src/shape.rt", "MAX_COORDINATE", "0 to {:,}")],
     "text": [("wb_names/src/text.rt", "MAX_LEN", "1 to {} bytes")],
@@ -86,15 +86,16 @@ def limit_in(file: str, name: str) -> int | str:
 
 
 def wrong_limits() -> list[str]:
-    """The limits that docs/FORMAT.md tells otherwise than the sources have them."""
-    rows = dict(line.strip("| ").split(" | ", 1) for line in rows_of(TOP / "docs/FORMAT.md") if line.count(" | ") == 1)
+    """The limits that the two pages tell otherwise than the sources have them."""
+    lines = [*rows_of(TOP / "docs/PROTOCOL.md"), *rows_of(TOP / "docs/SCRIPTS.md")]
+    rows = dict(line.strip("| ").split(" | ", 1) for line in lines if line.count(" | ") == 1)
     wrong = []
     for row, constants in LIMITS.items():
         for file, name, told in constants:
             limit = limit_in(file, name)
             text = told.replace("{:,}", "{}") if isinstance(limit, str) else told
             if text.format(limit) not in rows.get(row, ""):
-                wrong.append(f"{name} of {file} is {limit}, and the row '{row}' of docs/FORMAT.md says {rows.get(row)}")
+                wrong.append(f"{name} of {file} is {limit}, and the row '{row}' says {rows.get(row)}")
     return wrong
 
 

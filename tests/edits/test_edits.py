@@ -1,6 +1,6 @@
 """The edits that must fail, in crates/CRATE/must-fail: each changes a text that stands once in its file and names a goal, and there are no more than there
 may be. With `--tried LOG`, which tests/try-edits or `rt must-fail` printed, each was also refused for what it names: there, or before over
-the very text that stands now, as its line '# refused:' says.
+the very text that stands now, as edits.lock says.
 
 A line '# goal: TEXT' of an edit names the goal that refuses it, as the prover prints it, or a part of it. An edit fails here if it is refused for another
 reason, as where a proof no longer reads, which shows nothing of the contract.
@@ -13,20 +13,16 @@ from pathlib import Path
 
 import pytest
 
-from .. import refusals
+from .. import clauses, refusals
 
 TOP = Path(__file__).resolve().parents[2]
 EDITS = sorted(TOP.glob("crates/*/must-fail/*.edit"))
-MOST = 169
+MOST = 171
 REFUSED = "refused, as it must be"
 
 
 def crate_of(edit: Path) -> str:
     return edit.parent.parent.name
-
-
-def name_of(edit: Path) -> str:
-    return f"{crate_of(edit)}/{edit.stem}"
 
 
 def goal_of(edit: Path) -> str:
@@ -57,13 +53,13 @@ def wrong_pairs(edit: Path) -> list[str]:
     return wrong if texts else ["it names no file"]
 
 
-@pytest.mark.parametrize("edit", EDITS, ids=name_of)
+@pytest.mark.parametrize("edit", EDITS, ids=refusals.name_of)
 def test_edit_applies(edit: Path) -> None:
     assert wrong_pairs(edit) == []
     assert goal_of(edit), "it names no goal"
 
 
-@pytest.mark.parametrize("edit", EDITS, ids=name_of)
+@pytest.mark.parametrize("edit", EDITS, ids=refusals.name_of)
 def test_edit_is_refused(edit: Path, request: pytest.FixtureRequest) -> None:
     """By its goal, in what was printed of the tries, or before over this very text."""
     tried = request.config.getoption("--tried")
@@ -78,24 +74,40 @@ def test_edit_is_refused(edit: Path, request: pytest.FixtureRequest) -> None:
     assert any(goal_of(edit) in goal for goal in re.findall(r"`([^`]*)(?:`|$)", said[-1])), f"not {goal_of(edit)} refuses it: {said[-1]}"
 
 
+def test_each_has_a_row_in_the_table() -> None:
+    """It says whether the clause of the edit refuses it and nothing does without that, or why not."""
+    rows, edits = clauses.table(), {refusals.name_of(it): it for it in EDITS}
+    assert sorted(rows) == sorted(edits), "tests/try-edits --without-its-clause FOLDER CRATE .. writes the table"
+    changed = [name for name, row in rows.items() if row != ("-", clauses.NOT_YET) and (row[0] != clauses.own_digest(edits[name]) or not row[1])]
+    assert changed == [], "these are other edits than were tried"
+
+
 def test_there_are_not_too_many() -> None:
     assert 0 < len(EDITS) <= MOST
 
 
 def test_records(tmp_path: Path) -> None:
-    """Of three small crates, a change of what an edit was refused over makes it due, and no other change does."""
-    edit, beside = tmp_path / "crates/high/must-fail/turned.edit", tmp_path / "crates/beside/src/lib.rt"
-    over = [edit, tmp_path / "crates.txt", *(tmp_path / f"crates/high/{part}/text" for part in refusals.PARTS), tmp_path / "crates/low/src/lib.rt"]
-    for path in [*over, beside]:
+    """Of three small crates, a change of an edit, or of its crate, makes it due. No other change does, and an edit that is gone has no record."""
+    edit, low, beside = (tmp_path / f"crates/{it}" for it in ("high/must-fail/turned.edit", "low/src/lib.rt", "beside/src/lib.rt"))
+    gone = edit.with_name("gone.edit")
+    own = [edit, tmp_path / "crates.txt", *(tmp_path / f"crates/high/{part}/text" for part in refusals.PARTS)]
+    for path in [*own, low, beside, gone, tmp_path / refusals.LOCK]:
         path.parent.mkdir(parents=True, exist_ok=True)
-        path.write_text("text\n")
+        path.write_text("" if path.suffix == ".lock" else "text\n")
     (tmp_path / "crates.txt").write_text("low: thiserror\nhigh: low\nbeside: low\n")
+    refusals.record(gone)
+    gone.unlink()
     refusals.record(edit)
     assert refusals.is_recorded(edit), "what was just recorded is due"
-    for path in [*over, beside]:
+    assert [*refusals.records(tmp_path)] == ["high/turned"]
+    for path in [*own, low, beside]:
         before = path.read_text()
         path.write_text(before.replace("high: low", "high: low thiserror") if path.name == "crates.txt" else before + "more\n")
         refusals.forget()
-        assert refusals.is_recorded(edit) == (path == beside), f"a change of {path.relative_to(tmp_path)} is taken wrongly"
+        assert refusals.is_recorded(edit) == (path not in own), f"a change of {path.relative_to(tmp_path)} is taken wrongly"
         path.write_text(before)
     refusals.forget()
+
+
+def test_each_record_is_of_an_edit() -> None:
+    assert set(refusals.records(TOP)) <= {refusals.name_of(it) for it in EDITS}

@@ -1,4 +1,4 @@
-"""Datagrams in hexadecimal, from docs/FORMAT.md, and the random words of a seed. Nothing here comes from the program."""
+"""Datagrams in hexadecimal, from docs/SCRIPTS.md, and the random words of a seed. Nothing here comes from the program."""
 
 from __future__ import annotations
 

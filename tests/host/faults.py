@@ -42,7 +42,7 @@ request 9 7 7/1 1
 """
 
 
-# Lines and their faults, in the order of the checks in docs/FORMAT.md: words, numbers, digits
+# Lines and their faults, in the order of the checks in docs/SCRIPTS.md: words, numbers, digits
 MISTYPED = {
     "boards 1 16 1 42": "unknown",
     "Show 7 1 5 5": "unknown",
@@ -140,7 +140,7 @@ def no_datagrams() -> dict[str, str]:
 
 
 def wrong_words() -> dict[str, str]:
-    """Datagrams in words of which a word is wrong, with the place of the first such word, as docs/WORDS.md has them."""
+    """Datagrams in words of which a word is wrong, with the place of the first such word, as docs/SCRIPTS.md has them."""
     table = {
         "draw ": "word 2: number",
         "draw  7 7/1 1 10 line 0 1 4 1 *": "word 2: number",

@@ -11,8 +11,8 @@ from typing import Dict, List, NamedTuple, Optional, Sequence, Tuple
 SECOND = 1_000_000
 MINUTE, DAY = 60 * SECOND, 86_400 * SECOND
 
-# Moments of our own reports that are remembered. An echo of one that is older than FRESH answers nobody.
-OWN, FRESH = 256, 256 * SECOND
+# Moments of our own reports that are remembered. An echo of one that is older than FRESH answers nobody. Of two clocks one may go faster by one part in DRIFT.
+OWN, FRESH, DRIFT = 256, 256 * SECOND, 4_096
 
 # An origin that answered us is known until it was silent for so long, and a number stays with its origin for so long.
 SILENCE, PATIENCE = 600 * SECOND, 192 * SECOND
@@ -182,7 +182,8 @@ class Judge:
     def answers(self, datagram: Datagram, now: int) -> bool:
         """Whether a report echoes a moment at which we reported lately, which nobody knows that did not hear that report."""
         sent, held = datagram.echoes.get(self.me, (-1, 0))
-        return sent in self.own and now - sent <= FRESH and held <= now - sent
+        ago = now - sent
+        return sent in self.own and ago <= FRESH and held <= ago + ago // DRIFT
 
     def is_bound_elsewhere(self, number: int, origin: Origin, now: int) -> bool:
         """Whether a number is that of a member that has answered us and speaks from another origin."""

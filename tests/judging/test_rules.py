@@ -36,6 +36,8 @@ RULES = [
     # members and strangers
     Rule("reports vouch for nobody", "        self.others[number] = other\n",
          "        self.others[number] = other\n        self.strange = {} if self.is_known(origin, now) else self.strange\n", "a stranger is not vouched for"),
+    Rule("an echo is held no longer than it is ago", " and held <= ago + ago // DRIFT", "", "an echo was held no longer than it is ago, and one part in 4,096 of that"),
+    Rule("but for what a clock gains", "ago + ago // DRIFT", "ago", "who holds an echo for 96 s by a clock that gains 20 ms meanwhile answers, a millisecond away"),
     Rule("an answer makes known", "        self.known[origin] = now\n        if len", "        if len", "two members alone"),
     Rule("what a member gave before it answered is a member's", "if each != origin}", "}", "two members alone"),
     Rule("what a member gives of who has left is no stranger's", "        if not self.is_known(origin, now):\n            self.strange", "        if origin:\n            self.strange", "who has left is no stranger"),
@@ -46,7 +48,7 @@ RULES = [
     # twins
     Rule("a replay of an earlier start is no twin", "if self.answers(datagram, now) and not self.has_twin:", "if not self.has_twin:", "a replay is no twin"),
     Rule("nor is one of this start", "datagram.kind == \"session-message\" and datagram.sent not in self.own", "datagram.kind == \"session-message\"", "a replay is no twin"),
-    Rule("nor who echoes an old moment", "now - sent <= FRESH and held", "held", "an old echo shows no twin"),
+    Rule("nor who echoes an old moment", "ago <= FRESH and held", "held", "an old echo shows no twin"),
     Rule("a twin is told of itself", "self.alien = datagram.sent, now\n", "pass\n", "twins see each other"),
     Rule("who has one draws nothing", "        if self.has_twin:\n            return \"twin\"\n", "", "twins see each other"),
     # pages

@@ -16,6 +16,7 @@ share/bash-completion/completions/wb
 share/bash-completion/completions/wb-live
 share/doc/wb/BUILT
 share/doc/wb/LICENCE
+share/doc/wb/THIRD-PARTY
 share/man/man1/wb-live.1
 share/man/man1/wb.1
 share/wb/live/main.py

@@ -2,9 +2,10 @@
 
 from __future__ import annotations
 
+import shutil
 import time
 
-from .checkout import Checkout, End, wait_until
+from .checkout import TOP, Checkout, End, wait_until
 
 BUILDING = "wb: building a program that is not proved yet, which takes a minute or so\n"
 NOT_PROVED = "wb: this answer is not of the proved program: it is of a build that is checked while it runs, and not proved\n"
@@ -18,6 +19,16 @@ def test_try_answers_without_a_proof_and_says_so(checkout: Checkout) -> None:
     assert (checkout.wb("--try", "a").printed, checkout.begun()) == ("slow one a\n", [])
     checkout.main("two")
     assert checkout.wb("--try").printed == "slow two\n"
+
+
+def test_try_of_a_library_takes_a_folder_and_proves_nothing(checkout: Checkout) -> None:
+    assert checkout.wb("--try", "--library") == End(2, "", "wb: --try --library takes a folder, as /usr/local or $HOME/.local\n")
+    for part in ("src", "specs", "proofs"):
+        checkout.write(f"crates/wb_c/{part}/lib.rt", "stands in")
+    shutil.copytree(TOP / "web", checkout.top / "web", ignore=shutil.ignore_patterns("__pycache__"))
+    ended = checkout.wb("--try", "--library", str(checkout.room / "made"))
+    assert ended.status == 5 and ended.told.startswith("wb: building a library that is not proved, which takes two minutes or so\n")
+    assert checkout.begun() == ["unproved --library"]
 
 
 def test_now_names_what_is_there_at_once(checkout: Checkout) -> None:
@@ -55,7 +66,7 @@ def test_session_waits_for_the_proof_where_the_quick_build_fails(checkout: Check
     assert end.printed == "one host\n" and "a reason" in end.told
 
 
-WORDS = ["./wb --help", "./wb --where", "./wb --now", "./wb --page", "./wb --version", "./wb --install DIR"]
+WORDS = ["./wb --help", "./wb --where", "./wb --now", "./wb --page", "./wb --version", "./wb --install DIR", "./wb --try --library DIR, ./wb --try --page DIR"]
 
 
 def test_help_tells_the_launchers_words(checkout: Checkout) -> None:

@@ -129,9 +129,11 @@ class Browser:
         found: str = self.call("Browser.getVersion")["product"]
         return found.replace("Headless", "").replace("Chrome/", "Chromium ").split(".")[0]
 
-    def open(self, address: str, width: int = 1280, height: int = 800, first: str = "") -> Page:
-        """A window of its own on an address, of this size, which takes itself to be in front. What is to run first in it runs before its own scripts."""
-        target = self.call("Target.createTarget", url="about:blank", newWindow=True)["targetId"]
+    def open(self, address: str, width: int = 1280, height: int = 800, first: str = "", is_apart: bool = False) -> Page:
+        """A window of its own on an address, of this size, which takes itself to be in front. What is to run first in it runs before its own scripts.
+        One that is apart shares no cookies with the others."""
+        apart = {"browserContextId": self.call("Target.createBrowserContext")["browserContextId"]} if is_apart else {"newWindow": True}
+        target = self.call("Target.createTarget", url="about:blank", **apart)["targetId"]
         page = Page(self, target, self.call("Target.attachToTarget", targetId=target, flatten=True)["sessionId"])
         page.resize(width, height)
         page.call("Emulation.setFocusEmulationEnabled", enabled=True)

@@ -22,14 +22,20 @@ TOP = Path(__file__).resolve().parent.parent.parent
 PATIENCE, LONGEST = 120, 900
 
 
+def script_of(page: str) -> str:
+    """The path of the page's own script, behind the key."""
+    return str(re.findall('<script type="module" src="([^"]+)">', page)[0])
+
+
 class Process:
     """One start of ./wb-live, and the newest state that it told. Its records are kept in a folder of its own, unless words or the
     environment say where."""
 
-    def __init__(self, words: List[str], web: bool = True, environment: Optional[Dict[str, str]] = None, limits: Any = None, top: Path = TOP) -> None:
+    def __init__(self, words: List[str], web: bool = True, environment: Optional[Dict[str, str]] = None, limits: Any = None, top: Path = TOP,
+                 launch: Optional[List[str]] = None) -> None:
         self.folder = tempfile.TemporaryDirectory(prefix="wb-state-")
         self.process = subprocess.Popen(
-            [sys.executable, str(top / "wb-live"), *words] + (["--web", "0"] if web and "--web" not in words else []),
+            [sys.executable, *(launch or [str(top / "wb-live")]), *words] + (["--web", "0"] if web and "--web" not in words else []),
             stdin=subprocess.DEVNULL, stdout=subprocess.PIPE, stderr=subprocess.PIPE, text=True, preexec_fn=limits,
             env={**os.environ, "XDG_STATE_HOME": self.folder.name, **(environment or {})},
         )

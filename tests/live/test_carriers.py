@@ -265,10 +265,11 @@ def test_invitations(facts: Facts) -> None:
         facts("one for browsers too", line("--broker wss://broker.example/mqtt --session class-7 --page https://page.example/board/ --key " + path),
               "https://page.example/board/#session=class-7&broker=wss%3A%2F%2Fbroker.example%2Fmqtt&key=" + key)
         facts("other sessions have other records", len({session_name(read_options(words.split())) for words in (
-            "", "--session b", "--key " + path, "--broker mqtts://h/s", "--broker mqtts://h/t", "--broker mqtts://h:1/s", "--lan", "--ports 25000")}), 8)
+            "", "--session b", "--key " + path, "--broker mqtts://h/s", "--broker mqtts://h/t", "--broker mqtts://h:1/s", "--lan", "--ports 25000", "--web h:1", "--web h:2")}), 10)
     facts("of a group", read_options([line("--lan 239.1.2.3:5000 --session b")]).lan, ("239.1.2.3", 5000))
     facts("of ports", read_options([line("--ports 25000")]).ports, 25_000)
     facts("of peers there is none", fault_of(lambda: line("--listen 127.0.0.1:1 --peer 127.0.0.1:2")).startswith("peers are named one by one"), True)
+    facts("nor of a class of its own", fault_of(lambda: line("--web h:1")).startswith("others join a class by the address of its page"), True)
     browser = read_options(["https://page.example/#session=x&broker=wss%3A%2F%2Fanna%3Ase%2540cret%40h%2Fmqtt&lose=0.3"])
     facts("a browser's line may have a login", (browser.broker, browser.login, browser.lose), (Broker("wss", "h", 443, "/mqtt"), Login("anna", "se@cret"), 0.0))
     broker, _, given = read_broker("wss://a%20b:p%40%3A%2Fx@h/mqtt")

@@ -80,7 +80,7 @@ def test_names(facts: Facts) -> None:
 
 
 def test_twins(facts: Facts) -> None:
-    """Two members of one number."""
+    """Two members of one number, which the words name: neither takes another by itself."""
     with tempfile.TemporaryDirectory() as folder:
         words = ["--ports", str(FIRST_PORT), "--speed", "10", "--me", "77", "--record"]
         twins = [Process([*words, str(Path(folder) / ("%d.wb" % number))]) for number in range(2)]

@@ -44,6 +44,7 @@ def test_words(facts: Facts) -> None:
     facts("one of WebSockets", words_of("--broker wss://broker.example.org/mqtt --session class").split(" --no")[0], "--broker wss://broker.example.org/mqtt")
     facts("a page for others, and a worse network", words_of("--web 10.0.0.1:8050 --guests 30 --lose 0.5 --mix --teach").partition("--web")[2],
           " 10.0.0.1:0 --guests 30 --no-terminal --rate 4000 --lose 0.5 --mix --teach")
+    facts("a class of its own", words_of("--web a:0"), "--web a:0 --guests 64 --no-terminal --rate 4000")
     facts("no peers", words_of("--listen 127.0.0.1:1 --peer 127.0.0.1:2"), "peers are named one by one: the next board is begun by hand")
     facts("no proxy", words_of("--origin https://board.example.org"), "this page stands behind a proxy: the next board is begun by hand")
 

@@ -27,8 +27,8 @@ from live.options import read_options
 from live.record import Record
 from live.words import SharedWords
 from ..facts import Facts
-from .browser import Browser, Page, find_chromium
-from .members import PATIENCE, Process, change_board, comes
+from .browser import Browser, find_chromium
+from .members import PATIENCE, Process, change_board, comes, script_of
 
 FIRST_PORT = 26_840
 CROWD = 50
@@ -36,6 +36,9 @@ LINES = 15
 
 # seconds for which it is measured what they cost at rest
 REST = 5 if os.environ.get("WB_MEASURE") else 1
+
+# seconds for which two classes are watched
+APART = 2
 
 # milliseconds in the median, on an idle machine
 SOON = 300
@@ -193,6 +196,31 @@ def test_two(facts: Facts) -> None:
         facts("a program with guests ends with 0", [served.end(), other.end()], [0, 0])
 
 
+def test_classes(facts: Facts, tmp_path: Path) -> None:
+    """Two classes on one computer, each by its own page, share nothing, and one that starts again at its port goes on with its board."""
+    environment, port = {"XDG_STATE_HOME": str(tmp_path)}, free_port()
+    one, two = (Process(["--web", "127.0.0.1:%d" % number, "--speed", "10"], environment=environment) for number in (port, 0))
+    try:
+        facts("neither takes a port of the machine", [each.lines[1].partition(", ")[2] for each in (one, two)], ["a class of its own"] * 2)
+        windows = [Window(each).look() for each in (one, two)]
+        facts("each may draw", [window.draw("1/1", "line 0 %d 3 %d %s" % (row, row, "ab"[row]))[0] for row, window in enumerate(windows)], [200, 200])
+        facts("each shows its own", [window.wait_for(rows_are(rows)) for window, rows in zip(windows, (["aaaa"], ["", "bbbb"]))], [True, True])
+        facts("and never the other's", [window.wait_for(rows_are(["aaaa", "bbbb"]), APART) for window in windows], [False, False])
+        facts("nobody else is there", [{each["member"] for each in window.states["members"]["members"]} - {served.me} for window, served in zip(windows, (one, two))], [set(), set()])
+        facts("the first ends with 0", one.end(), 0)
+        one = Process(["--web", "127.0.0.1:%d" % port, "--speed", "10"], environment=environment)
+        facts("and goes on", Window(one).look().wait_for(rows_are(["aaaa"])), True)
+    finally:
+        facts("both end with 0", [one.end(), two.end()], [0, 0])
+
+
+def free_port() -> int:
+    """A port of this machine that nobody has."""
+    with socket.socket() as taken:
+        taken.bind(("127.0.0.1", 0))
+        return int(taken.getsockname()[1])
+
+
 def check_returns(facts: Facts, served: Process, one: Window, two: Window) -> None:
     """A reload keeps the member; who has no cookie gets none of another's, and of too many the last gets none."""
     me, cookie = one.me, one.cookie
@@ -208,23 +236,13 @@ def check_returns(facts: Facts, served: Process, one: Window, two: Window) -> No
     facts("nor may it draw", third.draw("1/1", "line 0 3 3 3 c")[0], 403)
     third.cookie = "wb=" + "0" * 32
     facts("nor by a cookie of nobody", third.look().status, 403)
-    facts("a script needs no member", served.get("/%s/page/start.js" % served.token)[0], 200)
+    facts("a script needs no member", served.get("/%s/%s" % (served.token, script_of(served.get("/%s/" % served.token, {"Cookie": one.cookie})[1])))[0], 200)
     facts("and the second is shown what the first drew", two.wait_for(lambda states: "aaaa" in states["board"]["rows"]), True)
 
 
 # ---- in a real browser
 
-ME = "wb.session.isLinked && wb.session.board.page && wb.session.hello.me"
-
-
-def open_apart(browser: Browser, address: str) -> Page:
-    """A window that shares no cookies with the others."""
-    apart = browser.call("Target.createBrowserContext")["browserContextId"]
-    target = browser.call("Target.createTarget", url="about:blank", browserContextId=apart)["targetId"]
-    page = Page(browser, target, browser.call("Target.attachToTarget", targetId=target, flatten=True)["sessionId"])
-    page.call("Page.enable")
-    page.call("Page.navigate", url=address)
-    return page
+ME = "wb.session.link === 'open' && wb.session.board.page && wb.session.hello.me"
 
 
 def test_cookies(facts: Facts) -> None:
@@ -236,7 +254,7 @@ def test_cookies(facts: Facts) -> None:
     address = "http://127.0.0.1:%d/%s/" % (served.port, served.token)
     try:
         with Browser(program) as browser:
-            pages = [browser.open(address), browser.open(address), open_apart(browser, address)]
+            pages = [browser.open(address), browser.open(address), browser.open(address, is_apart=True)]
             facts("three windows have members", [page.wait(ME) for page in pages], [True] * 3)
             one, same, other = (page.value(ME) for page in pages)
             facts("two of one browser have one", (one == same, one != other), (True, True))

@@ -23,7 +23,7 @@ ROOM, BESIDE = 250_000, 800
 
 
 def draw_datagram(source: int, seq: int, moment: int, glyph: bytes) -> bytes:
-    """A line from (0, 1) to (4, 1), by docs/FORMAT.md."""
+    """A line from (0, 1) to (4, 1), by docs/SCRIPTS.md."""
     body = struct.pack(">IIIIQB", source, 1, 1, seq, moment, 1) + struct.pack(">HHHH", 0, 1, 4, 1) + glyph
     return struct.pack(">2sBBI", b"WB", 1, 1, len(body)) + body
 

@@ -254,6 +254,8 @@ def test_forgotten(facts: Facts) -> None:
     facts("two are there", tells(25 + 4 * PAUSE, 8, Z, *both), {9: None, 8: None})
     facts("for each of two the pause is as long", tells(25 + 5 * PAUSE, 9, Y, both[0]), {9: None, 8: None})
     facts("after both, the host tells one no more", tells(25 + 6 * PAUSE, 9, Y, both[0]), {9: None})
+    at = 25 + 7 * PAUSE
+    facts("nobody is nearer than here, though a clock gains", tells(at, 9, Y, "9 %s %d %d" % (Y.word, at, at), more=" 1@5+%d" % at), {9: 0})
     facts("there speaks a member", heard.is_member(Y), True)
     heard.leave(Y)
     facts("and none once the network says that it is gone", (heard.is_member(Y), one.judging.present()), (False, {}))

@@ -130,7 +130,9 @@ def test_draw(facts: Facts) -> None:
     board = board_of(record, held)
     block, drawop = board.draw((1, 1), 50, "line 0 0 4 0 +")
     facts("its words", drawop.words if drawop else None, "draw 1 1/1 1 50 line 0 0 4 0 +")
-    facts("it is sent and told", (drawop.digits in block.sent() if drawop else False, len(held)), (True, 1))
+    facts("it is to be sent, and told to nobody yet", (drawop.digits in block.sent() if drawop else False, len(held)), (True, 0))
+    board.settle()
+    facts("it is told once it is on the disk", len(held), 1)
     block, drawop = board.draw((1, 1), 50, 'text 0 0 "a b"')
     facts("one of the same time lies above it", drawop.words if drawop else None, 'draw 1 1/1 2 51 text 0 0 "a b"')
     block, drawop = board.draw((1, 1), 50, "delete 1 3")
@@ -147,6 +149,7 @@ def test_unwritten(facts: Facts) -> None:
     record, held = Record(None), []  # type: Tuple[Record, List[Drawop]]
     board = board_of(record, held)
     board.draw((1, 1), 50, "line 0 0 4 0 +")
+    board.settle()
     first, size = board.host, record.size
     with mock.patch.object(record, "add", side_effect=NoRoom("no space")):
         facts("it is refused", (fault_of(board, "line 0 1 4 1 x"), board.host is first, board.is_broken), ("no space", False, True))
@@ -191,6 +194,7 @@ def test_strange(facts: Facts, tmp_path: Path) -> None:
     held: List[Drawop] = []
     board = board_of(Record(str(tmp_path / "1.wb")), held)
     board.draw((1, 1), 50, "line 0 0 4 0 +")
+    board.settle()
     board.take([Drawop("draw 8 1/1 1 999 line 0 2 9 2 o", drawn(8, 1, 999, 2, b"o").hex())], Origin("eve"))
     name, words = (8, (1, 1), 1), "draw 8 1/1 1 999 line 0 2 9 2 o"
     facts("a stranger's drawop", ([drawop.words for drawop in held[1:]], board.strange), ([words], {name}))

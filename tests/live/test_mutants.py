@@ -33,7 +33,7 @@ from live.views import Drawop
 from live.words import Words
 from ..facts import Facts
 from .test_hostile import Attacker, asking, deleting, drawn, framed, session, state
-from .members import PATIENCE, Process, comes
+from .members import PATIENCE, Process, comes, script_of
 
 FIRST_PORT = 27_280
 PAGE = "1/1"
@@ -370,7 +370,7 @@ def requests_to(member: Process) -> List[bytes]:
     head = b"Host: %s\r\nX-Wb-Token: %s\r\nCookie: %s\r\nOrigin: http://%s\r\n" % (host, key, cookie, host)
     posts = [(b"/draw", body), (b"/page", b'{"page": "1/1"}'), (b"/page", b'{"new": true}'), (b"/point", b'{"page": "1/1", "x": 3, "y": 4, "begun": []}')]
     return [
-        b"GET /%s/ HTTP/1.1\r\n%s\r\n" % (key, head), b"GET /%s/page/start.js HTTP/1.0\r\n%s\r\n" % (key, head), b"GET /%s/board?page=1/1 HTTP/1.1\r\n%s\r\n" % (key, head),
+        b"GET /%s/ HTTP/1.1\r\n%s\r\n" % (key, head), b"GET /%s/%s HTTP/1.0\r\n%s\r\n" % (key, script_of(member.get_page()[1]).encode(), head), b"GET /%s/board?page=1/1 HTTP/1.1\r\n%s\r\n" % (key, head),
         b"GET /%s/record HTTP/1.1\r\n%s\r\n" % (key, head),
         b"GET /%s/events?token=%s HTTP/1.1\r\n%sUpgrade: websocket\r\nConnection: Upgrade\r\nSec-WebSocket-Version: 13\r\nSec-WebSocket-Key: AAAAAAAAAAAAAAAAAAAAAA==\r\n\r\n\x81\x00\x88\x80abcd" % (key, key, head),
         *[b"POST /%s%s HTTP/1.1\r\n%sContent-Type: application/json\r\nContent-Length: %d\r\n\r\n%s" % (key, path, head, len(told), told) for path, told in posts],

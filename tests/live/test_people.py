@@ -2,11 +2,14 @@
 from __future__ import annotations
 
 from concurrent.futures import Future
+from functools import partial
 from types import SimpleNamespace
 from typing import Any, Callable, List, Tuple
 
+from live.alarms import Alarms
 from live.drawn import Drawn
-from live.member import Member
+from live.kept import Kept
+from live.member import PARTED_LATELY, Member
 from live.people import People, Refused
 from live.telling import Reported
 from live.views import Drawop, Page
@@ -28,9 +31,9 @@ def fate_of(act: Callable[[], Any]) -> str:
 def test_room_of_words(facts: Facts) -> None:
     """One cell in 16 is kept: of what people draw, names, titles and the chat alone have room there, and deletes and restores."""
     drawn, drawings, others = SimpleNamespace(total=0), ("line 0 0 1 1 *", "frame 0 0 1 1 *", 'text 0 0 "a"'), ("delete 1 1", "restore 1 1")
-    draws = SimpleNamespace(cells=1_000, moment=0, draw=lambda page, time, operation: (Block([], None, None), Drawop("draw 1 7/1 1 5 line 0 0 1 1 *")))
+    draws = SimpleNamespace(cells=1_000, moment=0, draw=lambda page, time, operation, keep: (Block([], None, None), Drawop("draw 1 7/1 1 5 line 0 0 1 1 *")))
     judging = SimpleNamespace(fault_of_drawing=lambda: None, tails=SimpleNamespace(drew=lambda drawop, moment: None))
-    member: Any = SimpleNamespace(me=1, drawn=drawn, board=draws, judging=judging, send_all=lambda sent: None)
+    member: Any = SimpleNamespace(me=1, drawn=drawn, board=draws, judging=judging, send_all=lambda sent: None, kept=Kept())
     people = People(member)
 
     def fates(total: int, page: Page, operations: Tuple[str, ...]) -> List[str]:
@@ -45,14 +48,18 @@ def test_room_of_words(facts: Facts) -> None:
 
 def test_waiting_drawings(facts: Facts) -> None:
     """Until the member may draw, 1,024 drawings wait."""
-    member: Any = SimpleNamespace(is_ready=False)
+    settled: List[str] = []
+    judging = SimpleNamespace(tails=SimpleNamespace(drew=lambda drawop, moment: None))
+    member: Any = SimpleNamespace(is_ready=False, board=SimpleNamespace(settle=lambda: settled.append("settled"), moment=0), judging=judging, send_all=settled.extend, kept=Kept())
     people, futures = People(member), [Future() for _ in range(1_025)]  # type: People, List[Future[Any]]
-    people.draw_now = lambda page, operation: {"words": operation}  # type: ignore[assignment]
     for number, future in enumerate(futures):
-        people.draw_or_wait(future, PAGE, "delete 7 %d" % number)
+        people.put(future, partial(Drawop, "draw 7 1/1 %d 10 delete 8 1" % (number + 1)))
     facts("one more is refused at once", (len(people.draws), fate_of(lambda: futures.pop().result(0))), (1_024, "busy"))
+    people.draw_all()
+    facts("none is drawn yet", any(future.done() for future in futures), False)
     people.begin()
-    facts("then all that waited are drawn", [future.result(0)["words"] for future in futures], ["delete 7 %d" % number for number in range(1_024)])
+    facts("then all that waited are drawn", [future.result(0)["seq"] for future in futures], list(range(1, 1_025)))
+    facts("by one sync", settled, ["settled"])
 
 
 def test_page_in_view(facts: Facts) -> None:
@@ -87,12 +94,42 @@ def test_new_page(facts: Facts) -> None:
     facts("one that is empty yet", (people.new_page(), turned), ({"page": "7/9"}, [(7, 2), (7, 4), (7, 4), (7, 9)]))
 
 
+def test_parting(facts: Facts) -> None:
+    """If somebody else has our number, we take another by ourselves, eight times in an hour, unless the words name the number."""
+    taken: List[int] = []
+    alarms = Alarms()
+    member: Any = SimpleNamespace(me=7, options=SimpleNamespace(me=None), parted=[], alarms=alarms)
+
+    def renumber() -> None:
+        if len(taken) == 7:
+            raise Refused("no new number: its record can't be written")
+        taken.append(member.me)
+        member.me += 1
+
+    member.people = SimpleNamespace(renumber=renumber)
+    for _ in range(8):
+        facts("it may", Member.may_part(member), True)
+        Member.part(member)
+    facts("not once more, where the record had no room either", (Member.may_part(member), taken), (False, [7, 8, 9, 10, 11, 12, 13]))
+    facts("it says so, and why not", (alarms.told()[-2:]), ["somebody else spoke under our number 13: we draw on as member 14", "no new number: its record can't be written"])
+    member.parted = [at - PARTED_LATELY for at in member.parted]
+    facts("an hour later it may again", Member.may_part(member), True)
+    member.options.me = 7
+    facts("not if the words name the number", Member.may_part(member), False)
+
+
 def test_undo(facts: Facts) -> None:
     """What we drew last is deleted, wherever its time puts it: of drawings that the host shows on the page in view."""
     deleted: List[Any] = []
     shown = {PAGE: [(7, PAGE, 2), (7, PAGE, 1), (8, PAGE, 4)], (7, 2): [(7, (7, 2), 5)]}
-    member: Any = SimpleNamespace(me=7, page=PAGE, board=SimpleNamespace(view=shown.__getitem__), is_ready=True)
+    member: Any = SimpleNamespace(me=7, former=[], page=PAGE, board=SimpleNamespace(view=shown.__getitem__))
     people = People(member)
-    people.draw_now = lambda page, operation: deleted.append((page, operation)) or {}  # type: ignore[assignment, func-returns-value]
-    people.undo()
+    people.draw_now = lambda page, operation: deleted.append((page, operation)) or Drawop("draw 7 7/1 9 10 delete 7 2")  # type: ignore[assignment, func-returns-value, misc]
+    people.undo_now()
     facts("the greatest number of ours that is shown", deleted, [(PAGE, "delete 7 2")])
+    member.me, member.former = 9, [8, 7]
+    people.undo_now()
+    facts("also of what we drew under the number before", deleted[1:], [(PAGE, "delete 7 2")])
+    member.me, member.former = 8, [7]
+    people.undo_now()
+    facts("but first under that of now", deleted[2:], [(PAGE, "delete 8 4")])

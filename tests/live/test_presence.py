@@ -52,8 +52,10 @@ def test_heeding(facts: Facts) -> None:
     facts("another is told", [other["member"] for other in told.others], [7])
     presence.hear(write(POINT._replace(member=1)))
     facts("we are not", [other["member"] for other in told.others], [7])
-    presence.hear(write(POINT._replace(cell=None)))
-    facts("who points nowhere is gone", told.others, [])
+    presence.hear(write(POINT._replace(cell=None, begun=["view 0 0 6400 9600"])))
+    facts("who points nowhere and tells what is in view is told", [(other["cell"], other["begun"]) for other in told.others], [(None, ["view 0 0 6400 9600"])])
+    presence.hear(write(POINT._replace(cell=None, begun=[])))
+    facts("who tells nothing more is gone", told.others, [])
     for x in range(10 * MOST_A_SECOND):
         presence.hear(write(POINT._replace(member=8, cell=(x, 0))))
     facts.holds("a flood is not heeded", told.others[0]["cell"][0] < 3 * MOST_A_SECOND, told.others[0]["cell"][0])

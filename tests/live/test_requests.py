@@ -10,7 +10,7 @@ from typing import Any, Callable, Dict, Iterator, List, Optional, Tuple
 import pytest
 
 from ..facts import Facts
-from .members import PATIENCE, Process
+from .members import PATIENCE, Process, script_of
 
 FIRST_PORT = 26_120
 
@@ -50,14 +50,15 @@ def check_page(facts: Facts, member: Process) -> None:
 
 def check_files(facts: Facts, member: Process) -> None:
     """The modules that the page consists of, and nothing beside them."""
-    for path, kind in (("/page/start.js", "text/javascript"), ("/page/style.css", "text/css")):
+    script = "/" + script_of(member.get_page()[1])
+    for path, kind in ((script, "text/javascript"), (script.replace("start.js", "style.css"), "text/css")):
         connection = http.client.HTTPConnection("127.0.0.1", member.port, timeout=PATIENCE)
         connection.request("GET", "/%s%s" % (member.token, path))
         answer = connection.getresponse()
         facts("%s is served" % path, (answer.status, answer.getheader("Content-Type", "").split(";")[0]), (200, kind))
         facts("%s without the token" % path, member.token in answer.read().decode(), False)
     host = {"Host": "127.0.0.1:%d" % member.port}
-    for path in ("/page/", "/page/index.html", "/page/../web.py", "/page/%2e%2e/web.py", "/page/none.js"):
+    for path in ("/page/", "/page/start.js", script.replace("start.js", "index.html"), "/page/../web.py", "/page/%2e%2e/web.py", script.replace("start", "none")):
         facts("%s is not" % path, status_of(member, "GET", "/" + member.token + path, host), 404)
         facts("%s is not served without the key" % path, status_of(member, "GET", path, host), 403)
 
@@ -98,7 +99,7 @@ def check_strangers(facts: Facts, member: Process) -> None:
         ("a drawing without a token", 403, "POST", key + "/draw", {"Host": host}),
         ("a drawing with a wrong token", 403, "POST", key + "/draw", dict(ours, **{"X-Wb-Token": "0" * 32})),
         ("a length that is none", 411, "POST", key + "/draw", dict(ours, **{"Content-Length": "-1"})),
-        ("a body that is too long by its length", 413, "POST", key + "/draw", dict(ours, **{"Content-Length": "1025"})),
+        ("a body that is too long by its length", 413, "POST", key + "/draw", dict(ours, **{"Content-Length": "65537"})),
     ]
     for name, wanted, method, path, headers in cases:
         facts(name, status_of(member, method, path, headers, good if method == "POST" else None), wanted)
@@ -110,7 +111,8 @@ def check_bodies(facts: Facts, member: Process) -> None:
         status, answer = member.post("/draw", value)
         return status, answer.get("fault", "")
 
-    facts("a long body", member.post("/draw", b" " * 1025)[0], 413)
+    facts("a long body", member.post("/draw", b" " * 65_537)[0], 413)
+    facts("and one of what is no drawing", member.post("/page", b" " * 1025)[0], 413)
     facts("a body that is no JSON", fault(b"line 0 0 4 4 *"), (400, "not JSON"))
     facts("a deep body", fault(b"[" * 1000), (400, "not JSON"))
     facts("a list", fault([]), (400, "not an object"))

@@ -5,6 +5,7 @@ from __future__ import annotations
 import importlib.util
 import select
 import socket
+import struct
 import tempfile
 import threading
 import time
@@ -13,6 +14,7 @@ from typing import Any, List, Tuple
 
 import pytest
 
+from live.member import MOST_PARTINGS
 from ..facts import Facts
 from ..judging.reference import STRANGE_PAGES
 from .test_forgeries import now
@@ -244,6 +246,42 @@ def test_replay(facts: Facts) -> None:
         finally:
             ear.end()
             facts("they end with 0", [again.end(), other.end()], [0] * 2)
+
+
+def test_forged_twin(facts: Facts) -> None:
+    """Somebody who hears us speaks under our number, and echoes us. We draw on by a new number, with all that is held; after eight times in an hour, nothing
+    is drawn until people want a new one."""
+    member = Process(["--ports", str(FIRST_PORT), "--speed", "10"])
+    ear = Ear(member.udp_port)
+    try:
+        facts("one draws", member.draw(PAGE, "line 0 0 4 0 a")[0], 200)
+        numbers = [member.me]
+        for row in range(1, MOST_PARTINGS + 1):
+            speak_for(ear, numbers[-1])
+            facts("it takes a new number by itself", member.wait_for(lambda states: states["hello"]["me"] != numbers[-1]), True)
+            numbers.append(member.states["hello"]["me"])
+            facts("and draws on", (member.draw(PAGE, "line 0 %d 4 %d a" % (row, row))[0], member.states["hello"]["twin"]), (200, False))
+        told = "somebody else spoke under our number %d: we draw on as member %d" % (numbers[0], numbers[1])
+        facts("it says so", (len(set(numbers)), member.wait_for(lambda states: told in states["health"]["warnings"])), (MOST_PARTINGS + 1, True))
+        newcomer = Process(["--ports", str(FIRST_PORT), "--speed", "10"])
+        facts("all that it drew is shown, and repaired", [each.wait_for(lambda states: states["board"]["rows"] == ["aaaaa"] * len(numbers)) for each in (member, newcomer)], [True, True])
+        newcomer.end()
+        speak_for(ear, numbers[-1])
+        facts("once more it is stopped", (is_twin(member, SOON), member.draw(PAGE, "line 0 20 4 20 a")[0], member.states["hello"]["me"]), (True, 422, numbers[-1]))
+        facts("until people want a new number", (member.post("/number", {"new": True})[0], member.draw(PAGE, "line 0 20 4 20 a")[0]), (200, 200))
+    finally:
+        ear.end()
+        facts("it ends with 0", member.end(), 0)
+
+
+def speak_for(ear: Ear, me: int) -> None:
+    """Sends a session message of a number from elsewhere, with an echo of the last that the number sent."""
+    ear.heard.clear()
+    own = b"WB\x01\x02", me.to_bytes(4, "big")
+    comes(lambda: any((data[:4], data[8:12]) == own for data, _ in list(ear.heard)), SOON)
+    sent, port = next((data[12:20], port) for data, port in list(ear.heard)[::-1] if (data[:4], data[8:12]) == own)
+    ear.target = ("127.0.0.1", port)
+    ear.send(framed(2, own[1] + struct.pack(">QIIHH", 9, 1, 1, 0, 1) + own[1] + sent + struct.pack(">Q", 1)))
 
 
 def test_sealed_replay(facts: Facts) -> None:

@@ -3,6 +3,7 @@ from __future__ import annotations
 
 import contextlib
 import io
+import json
 import os
 import random
 import re
@@ -18,7 +19,7 @@ import pytest
 from live.alarms import Alarms
 from live.carriers.carrier import Origin
 from live.clock import Clock
-from live.drawn import Drawn
+from live.drawn import Drawn, Sheet
 from live import board as boards, connections, inbox as inboxes
 from live.inbox import MOST_WAITING, PACE, PACE_BYTES, Arrival, Inbox
 from live.letters import fitting, letter_rows, printable
@@ -81,6 +82,26 @@ def test_drawn(facts: Facts) -> None:
     facts("two numbers are missing", drawn.missing(PAGE), 2)
     counts = [len(drawn.sheet((9, number)).drawops) for number in range(1_000)]
     facts("of pages that are looked at and have nothing none is remembered", (set(counts), len(drawn.pages)), ({0}, 1))
+
+
+def test_erased(facts: Facts) -> None:
+    """Who erased what, what was done just before, and when a page was begun, in any order of coming."""
+    lines = ["draw 7 7/1 1 1000000 line 0 1 4 1 *", "draw 8 7/1 1 1200000 line 0 1 4 1 *", "draw 8 7/1 2 1300000 delete 7 1", "draw 9 7/1 1 1400000 delete 7 1",
+             "draw 8 7/1 3 1500000 restore 7 1", "draw 8 7/1 4 1600000 delete 7 1", "draw 9 7/1 2 1700000 delete 7 1", "draw 8 7/1 5 2700000 delete 8 1"]
+    chance = random.Random(5)
+    for _ in range(20):
+        chance.shuffle(lines)
+        at = AtHost(*lines)
+        told = {name: json.loads(erased.text())["erased"] for name, erased in at.showing.hidden.items()}
+        # 8 deletes what it restored just before: that was no move; and after over a second nothing stands before a delete
+        facts("the first delete after the last restore counts", told, {(7, PAGE, 1): [8, 4, "1600000", None], (8, PAGE, 1): [8, 5, "2700000", None]})
+    moved = AtHost("draw 8 7/1 2 1300000 delete 7 1", "draw 7 7/1 1 1000000 line 0 1 4 1 *", "draw 8 7/1 1 1200000 line 1 2 5 2 *")
+    facts("what came before a delete is told, though it came late", json.loads(moved.showing.hidden[(7, PAGE, 1)].text())["erased"], [8, 2, "1300000", "line"])
+    sheet = Sheet()
+    for line in lines:
+        sheet.add(Drawop(line))
+    facts("a page is as old as its first drawop, and as new as its last that is no delete", (sheet.begun, sheet.last), (1_000_000, 1_500_000))
+    facts("without what strangers gave", (sheet.begun_by({(7, PAGE, 1)}), sheet.begun_by(set(sheet.drawops)), Sheet().begun_by(set())), (1_200_000, 1_000_000, float("inf")))
 
 
 def test_order(facts: Facts) -> None:
@@ -411,6 +432,8 @@ def test_options(facts: Facts) -> None:
     spreads = [[reach / int(constant) for constant in each.split(",")[1::2]] for each, reach in ((constants[2], 5 / 10), (constants[4], 1))]
     few = [all(1 + (50 - 1) * share <= 6 for share in shares) for shares in spreads]
     facts("of fifty at most six ask or repair in a round, where 5 ms count as 10 too", few, [True, True])
+    joined = ("--web 127.0.0.1:0", "", "--web 80", "--web a:0 --ports 25000", "--web a:0 --lan", "--web a:0 --listen 127.0.0.1:1 --peer 127.0.0.1:2", "--web a:0 --broker mqtts://a/b", "--web a:0 wb:#ports=25000")
+    facts("a class is of its own unless a network is named", [read_options(words.split()).is_alone for words in joined], [True] + 7 * [False])
     facts("no page, so the terminal", (read_options(["--no-web"]).web, read_options(["--no-web"]).terminal), (None, True))
 
 

@@ -114,6 +114,7 @@ class Virtual:
         drawing = self.member.people.draw(PAGE, "line 0 %d 9 %d *" % (row, row))
         for call in self.member.inbox.take(0)[0]:
             call()
+        self.member.people.draw_all()
         return drawing
 
     def held(self) -> int:

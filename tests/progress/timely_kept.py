@@ -25,6 +25,7 @@ SETTLED = QUIET + DELIVERY
 REPAIRING = ANSWERING * FAR + 2 * DELIVERY + LATE + LATE
 KNOWN = SETTLED + DELIVERY + 3 * FAR + DRIFT + 1
 IS_NEW = "batch 1 0 0 0"
+MOST_LEVEL = 16  # a request timer waits twice as long at each level, up to this one
 RATE = 4_000  # bytes a second, which all reports together may take
 HEARD = 192_000_000  # for so long a member counts after it was heard
 LONGEST_MEAN = 64_000_000
@@ -37,6 +38,7 @@ MOST_BYTES = {DRAWOP: 102, SESSION: MOST_REPORT_BYTES, REQUEST: 28, ASK_PAGES: 1
 COUNTED = SETTLED + HEARD + DRIFT + LONGEST_PAUSE  # from then on reports go by the number of hosts
 
 SECOND, COST = 1_000_000, 250_000
+HOUR = 3_600 * SECOND
 
 Loses = Callable[["TimelyKept", int, str], bool]
 
@@ -57,6 +59,18 @@ class Soon(NamedTuple):
     turning: int
     pause: int
     since: int
+
+
+class Waits(NamedTuple):
+    """No delay that a host uses is above `far`, and no two constants of requests, or of repairs, sum to more than these."""
+
+    far: int
+    asking: int
+    answering: int
+
+
+HERE = Waits(FAR, ASKING, ANSWERING)
+FEW, SEVERAL = Waits(FAR, 2, 2), Waits(FAR, 6, 4)  # of wb-live and the page, among few members and among several
 
 
 class Sent(NamedTuple):
@@ -123,48 +137,70 @@ def rounds_by(soon: Soon, wait: int, rounds: int) -> int:
     return max(KNOWN + wait + REPAIRING, soon.since) + rounds * (soon.pause + LATE + request_span() + REPAIRING)
 
 
-def spans(far: int) -> tuple[int, int, int]:
-    """From where a name is asked for to its first request, from a request to where all hold the name, and when requests are answered, if no delay is
-    above `far`."""
-    return ASKING * far + LATE, ANSWERING * far + 2 * DELIVERY + 2 * LATE, SETTLED + DELIVERY + 3 * far + DRIFT + 1
+def spans(waits: Waits) -> tuple[int, int, int]:
+    """From where a name is asked for to its first request, from a request to where all hold the name, and when requests are answered."""
+    return waits.asking * waits.far + LATE, waits.answering * waits.far + 2 * DELIVERY + 2 * LATE, SETTLED + DELIVERY + 3 * waits.far + DRIFT + 1
 
 
-def crowded_by(wait: int, most: int, far: int, places: int = PLACES_OF_LAST, since: int = 0) -> int:
+def round_span(waits: Waits) -> int:
+    asking, answering, _ = spans(waits)
+    return 2 * asking + answering
+
+
+def crowded_by(wait: int, most: int, waits: Waits, places: int = PLACES_OF_LAST, since: int = 0) -> int:
     """The time at which all hold all if each host that lacks something always asks for all that it lacks, or for `places` names, though it gives names up
-    early, and uses no delay above `far`. In a round as many names come, or 64 are asked for, and credit pays for few such rounds."""
-    asking, answering, known = spans(far)
-    span = 2 * asking + answering
+    early. In a round as many names come, or 64 are asked for, and credit pays for few such rounds."""
+    _, answering, known = spans(waits)
+    span = round_span(waits)
     bringing = -(-most // places)
     owed = (PLACES + PAYS * most) * COST + LONGEST_GAP + LATE + bringing * span
     crowded = -(-owed // (PLACES * COST - span))
     return max(known + wait + answering, since) + LONGEST_GAP + LATE + (bringing + crowded) * span
 
 
-def filled_by(wait: int, most: int, far: int, since: int = 0) -> int:
+def filled_by(wait: int, most: int, waits: Waits, since: int = 0) -> int:
     """The time at which all hold all if from `since` on each lacks nothing but numbers below one that it holds, and each of these is held by one of them:
     a round brings one name, and each host asks for one within three turns."""
-    return crowded_by(wait, most, far, 1, since) + 3 * (LONGEST_GAP + LATE)
+    return crowded_by(wait, most, waits, 1, since) + 3 * (LONGEST_GAP + LATE)
 
 
-def window_span(slices: int, soon: Soon, far: int) -> int:
+def window_span(slices: int, soon: Soon, waits: Waits) -> int:
     """In so long a window a host that lacks the last number of a source hears of it, and gets it or asks for 64 names."""
-    asking, answering, _ = spans(far)
+    asking, answering, _ = spans(waits)
     return PLACES * COST + DRIFT + LONGEST_GAP + LATE + 2 * slices * (soon.pause + LATE) + DELIVERY + 2 * asking + answering
 
 
-def topped_by(wait: int, asks: int, slices: int, soon: Soon, far: int) -> int:
+def topped_by(wait: int, asks: int, slices: int, soon: Soon, waits: Waits) -> int:
     """The time at which each holds the last number of each source, if none asks for a name more than `asks` times."""
-    _, answering, known = spans(far)
-    return max(known + wait + answering, soon.since) + (asks // PLACES + 1) * window_span(slices, soon, far) + 1
+    _, answering, known = spans(waits)
+    return max(known + wait + answering, soon.since) + (asks // PLACES + 1) * window_span(slices, soon, waits) + 1
 
 
-def gained_by(wait: int, most: int, slices: int, soon: Soon, far: int) -> int:
+def gained_by(wait: int, most: int, slices: int, soon: Soon, waits: Waits) -> int:
     """The time at which they do, whatever they ask for, if each missing number is held: each window brings a name, since credit does not pay for crowd after
     crowd of 64 names."""
-    asking, answering, known = spans(far)
+    asking, answering, known = spans(waits)
     crowds = (PLACES * COST + LONGEST_GAP + LATE) // (PLACES * COST - 2 * asking) + 1
-    gaining = window_span(slices, soon, far) + crowds * 2 * asking + asking + answering
+    gaining = window_span(slices, soon, waits) + crowds * 2 * asking + asking + answering
     return max(known + wait + answering, soon.since) + LONGEST_GAP + LATE + most * gaining + 1
+
+
+def longest_wait(waits: Waits) -> int:
+    """No request timer waits for longer, however long its requests were lost."""
+    return waits.asking * waits.far << MOST_LEVEL
+
+
+def outlasted_by(most: int, asks: int, members: int, waits: Waits) -> int:
+    """The time at which all hold all after an outage, however long it was, if each missing number is held, and none asks for a name more than `asks` times.
+    Reports go by the number of members, and one slice has all marks of a page."""
+    wait = longest_wait(waits)
+    return filled_by(wait, most, waits, topped_by(wait, asks, 1, soonest(members), waits))
+
+
+def outlasted_anyway_by(most: int, members: int, waits: Waits) -> int:
+    """The same, however often they ask."""
+    wait = longest_wait(waits)
+    return filled_by(wait, most, waits, gained_by(wait, most, 1, soonest(members), waits))
 
 
 def rows_of(held: set[str]) -> dict[str, list[int]]:

@@ -57,7 +57,7 @@ def changed(datagram: Datagram, at: int, value: str) -> str:
     return digits[:2 * at] + value + digits[2 * at + len(value):]
 
 
-# what is not a datagram: the digits, the number of the fault in docs/FORMAT.md, and why
+# what is not a datagram: the digits, the number of the fault in docs/SCRIPTS.md, and why
 BASE, MARKS = DATAGRAMS[0], DATAGRAMS[-1]
 NOT_DATAGRAMS = [
     ("574201", 1, "fewer than 8 bytes"),
@@ -104,7 +104,7 @@ PAGES: list[tuple[str, list[Drawop]]] = [
 
 def datagram_vectors() -> dict[str, object]:
     return {
-        "what": "Datagrams in hexadecimal and in words, and bytes that are no datagrams, with the number of the fault (docs/PROTOCOL.md, docs/WORDS.md, docs/FORMAT.md)",
+        "what": "Datagrams in hexadecimal and in words, and bytes that are no datagrams, with the number of the fault (docs/PROTOCOL.md, docs/SCRIPTS.md)",
         "datagrams": [{"words": words_of(it), "hex": write(it).hex()} for it in DATAGRAMS],
         "not datagrams": [{"why": why, "fault": fault, "hex": digits} for digits, fault, why in NOT_DATAGRAMS],
     }

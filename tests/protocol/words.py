@@ -1,4 +1,4 @@
-"""A datagram in words, as docs/WORDS.md says them."""
+"""A datagram in words, as docs/SCRIPTS.md says them."""
 
 from __future__ import annotations
 

@@ -35,6 +35,7 @@ share/bash-completion/completions/wb-live
 share/doc/wb/BUILT
 share/doc/wb/CHANGELOG.md
 share/doc/wb/LICENCE
+share/doc/wb/THIRD-PARTY
 share/fish/vendor_completions.d/wb-live.fish
 share/fish/vendor_completions.d/wb.fish
 share/man/man1/wb-live.1

@@ -170,6 +170,10 @@ class Restarts:
                     self.compared += key in self.views
                     if self.views.setdefault(key, view.lines) != view.lines:
                         raise Fault(f"member {member.number} has two views of page {place} for one report")
+                    self.agreed(member, key)
+
+    def agreed(self, member: Member, key: tuple[str, ...]) -> None:
+        """A member showed what others did for this report of a page."""
 
     def step(self) -> None:
         self.now += self.random.randrange(1_000, 300_000)
@@ -184,6 +188,9 @@ class Restarts:
         if self.random.random() < 0.3:
             self.compare()
 
+    def finish(self) -> None:
+        """What comes after all steps."""
+
     def starts(self) -> int:
         return sum(member.starts for member in self.members.values())
 
@@ -193,6 +200,7 @@ class Restarts:
                 member.start()
             for _ in range(STEPS):
                 self.step()
+            self.finish()
         finally:
             for member in self.members.values():
                 member.end()

@@ -88,10 +88,8 @@ def test_wishes(tally: Tally, one: Sheet, other: Sheet) -> None:
     one.page.prefer(reduced_motion="reduce")
     tally.check("no motion where none is asked for", bool(one.page.value("getComputedStyle(document.getElementById('undo')).transitionDuration === '0s'")))
     one.page.call("Emulation.setEmulatedMedia", media="print")
-    tally.check("the page's characters are printed as text", bool(one.page.value(
-        "getComputedStyle(document.getElementById('text')).position === 'static' && getComputedStyle(wb.view.sheet.parentElement).display === 'none'")))
-    one.look("ink")
-    tally.check("its ink as it is seen, without what floats over it", bool(one.page.value(
-        "getComputedStyle(wb.view.sheet.parentElement).display !== 'none' && [...document.querySelectorAll('.island')].every((island) => !island.getClientRects().length)")))
-    one.look("cells")
+    one.page.value("dispatchEvent(new Event('beforeprint')); 0")
+    tally.check("the page's characters are printed as text, and nothing else", bool(one.page.value(
+        "document.querySelector('#paper text').getClientRects().length > 0 && [...document.querySelectorAll('.island, #sheet, #text')].every((each) => !each.getClientRects().length)")))
+    one.page.value("dispatchEvent(new Event('afterprint')); 0")
     one.page.call("Emulation.setEmulatedMedia", media="")

@@ -9,7 +9,7 @@ import { Items, itemsOf } from '../../live/ui/inkitems.js';
 import { readLetters, writeLetters } from '../../live/ui/inkletters.js';
 import { svgOfInk } from '../../live/ui/inksvg.js';
 import { FIRST_ROW, PAGE_HIGH, PAGE_WIDE, numberOf, spelled, valueFor, wayOf } from '../../live/ui/inksigns.js';
-import { keptInks, movedInk, placed, writeLink, writeShape, writeStroke, writeWords } from '../../live/ui/inkwriting.js';
+import { isAgain, keptInks, movedInk, placed, recoloured, restyled, writeLink, writeShape, writeStroke, writeWords } from '../../live/ui/inkwriting.js';
 import { awayFrom } from './away.mjs';
 
 const wrong = [];
@@ -187,7 +187,12 @@ function testMoves({ reads }) {
   }
   check('not off the page', [movedInk('~s$1!hV#HJ', -6401, 0), movedInk('~s$1!hV#HJ', 0, 479520), movedInk('no ink', 1, 1)], [null, null, null]);
   check('as far as all stay on the page', keptInks([readInk('~s$1!hV#HJ'), readInk('~hC2!!!!!!sOsP')], -50, 1e6), [0, 479519]);
-  check('places of inks', [0, 63, 64, 6143, 6144].map((n) => placed('', n)).map(({ x, y }) => [x, y]), [[0, 4000], [4032, 4000], [0, 4001], [4032, 4095], [0, 4000]]);
+  check('places of inks', [0, 62, 63, 6047, 6048].map((n) => placed('', n)).map(({ x, y }) => [x, y]), [[0, 4000], [3968, 4000], [0, 4001], [3968, 4095], [0, 4000]]);
+  check('of one that stands for others', [placed('', 62, true).x, isAgain(placed('', 62, true)), isAgain(placed('', 62)), isAgain({ ...placed('', 1, true), y: 3999 })], [3969, true, false, false]);
+  const look = { colour: 1, width: 4, size: 5, font: 2, isDashed: true, fill: 2 }, anew = (text) => (({ kind, colour, width, flag, goesOn }) => [kind, colour, width, flag, goesOn].join(' '))(readInk(restyled(text, look)));
+  check('in another look, what each kind has of it', ['~sHb!->!XBYYYE', '~l11!!!!!!!!!!!!', '~r11!!!!!!!!!!!!', '~n11!!!!!!!!!!!!', "~t'2@|E](YE = mc~!T", '~hC2!!!!!!sOsP'].map(anew),
+    ['s 1 4 1 true', 'l 1 4 5 false', 'r 1 4 6 false', 'n 1 6 1 false', 't 1 5 2 false', 'h 1 6 2 false']);
+  check('in another colour', [recoloured('~s-1!hV#HJTJkis,r,', 6), recoloured('plain', 6)], ['~sZ1!hV#HJTJkis,r,', null]);
 }
 
 // ---- letters in a text
@@ -205,7 +210,7 @@ function testText() {
 // ---- pictures
 
 function testSvg() {
-  const svg = (...texts) => svgOfInk(itemsOf(drawings(texts)), { colourOf: ({ colour }) => `c${colour}` }, { paper: 'white', ink: 'black' }, 'a <page>');
+  const svg = (...texts) => svgOfInk(itemsOf(drawings(texts)), { colourOf: ({ colour }) => `c${colour}`, shades: { colours: { paper: 'white', ink: 'black' } } }, 'a <page>');
   const lines = [...svg('~v%0!({!/&!dOOdO}').matchAll(/<line x1="([\d.]+)" y1="([\d.]+)" x2="([\d.]+)" y2="([\d.]+)" stroke-width="([\d.]+)"/g)].map((found) => found.slice(1).map(Number));
   check('a stroke with pressure has its widths', [lines.length, lines[5], lines[11]], [12, [656.7, 1200, 660, 1200, 22], [676.7, 1200, 680, 1200, 35.2]]);
   check('a dot with pressure', [...svg('~v%0!({!/&!').matchAll(/stroke-width="([\d.]+)"/g)].map(([, wide]) => wide), ['8.8']);

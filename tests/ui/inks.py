@@ -330,26 +330,6 @@ def test_sight(tally: Tally, one: Sheet, other: Sheet) -> None:
     tally.check("and ink again", one.page.wait("document.body.dataset.look === 'ink'"))
 
 
-def test_follow(tally: Tally, one: Sheet, other: Sheet) -> None:
-    clean(one, other)
-    number = one.page.value("wb.session.hello.me")
-    one.page.mouse("mouseMoved", *at(one, (300, 300))[0], pressed=False)
-    tally.check("where others point has their name", other.page.wait(f"wb.others.of({number})"))
-    other.unfold("#members button")
-    other.press("#members button")
-    first = one.page.value("wb.session.board.page")
-    draw(one, at(one, (300, 300), (330, 310)))
-    is_settled(one, 1)
-    one.page.value("wb.session.goToPage(null); 0")
-    one.page.until(f"wb.session.board.page !== {json.dumps(first)}")
-    one.page.mouse("mouseMoved", *at(one, (320, 320))[0], pressed=False)
-    one.page.mouse("mouseMoved", *at(one, (330, 330))[0], pressed=False)
-    tally.check("who follows turns pages with them", other.page.wait(f"wb.session.board.page === {json.dumps(one.page.value('wb.session.board.page'))}"))
-    other.press("#members button")
-    tally.check("and no more", other.page.wait("wb.faces.followed === null"))
-    other.fold()
-
-
 def test_clear(tally: Tally, one: Sheet, other: Sheet) -> None:
     clean(one, other)
     one.keys("l")
@@ -377,7 +357,7 @@ def test_writing(tally: Tally, one: Sheet, other: Sheet) -> None:
 
 
 def test_inks(tally: Tally, one: Sheet, other: Sheet) -> None:
-    for test in (test_hands, test_by_keys, test_stylus, test_writing, test_sight, test_follow, test_clear):
+    for test in (test_hands, test_by_keys, test_stylus, test_writing, test_sight, test_clear):
         test(tally, one, other)
     for sheet in (one, other):
         sheet.look("cells")

@@ -118,7 +118,7 @@ def test_files(tally: Tally, one: Sheet, other: Sheet, name: str) -> None:
 def test_glances(tally: Tally, one: Sheet, other: Sheet, name: str) -> None:
     before = one.page.value("wb.session.board.page")
     one.press("#all")
-    tally.check("all pages are seen at a glance", one.page.wait("document.querySelectorAll('#glances button').length === wb.session.leaves().length"))
+    tally.check("all pages are seen at a glance", one.page.wait("document.querySelectorAll('#glances .turn').length === wb.session.leaves().length"))
     inked = one.page.value("""[...document.querySelectorAll('#glances canvas')].filter((canvas) =>
         canvas.getContext('2d').getImageData(0, 0, canvas.width, canvas.height).data.some((part, i, all) => part !== all[i % 4])).length""")
     tally.check("with what they show", inked > 1, str(inked))

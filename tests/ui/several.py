@@ -14,7 +14,7 @@ from .sheets import BY_CELLS, TOP, Member, Sheet, Tally
 def test_tabs(tally: Tally, browser: Browser, member: Member) -> None:
     """Eight tabs of one member: each hears of drawings, and each draws."""
     tabs = [Sheet(browser.open(member.address, first=BY_CELLS)) for _ in range(8)]
-    tally.check("eight tabs are told", all_came(tab.page.wait("typeof wb !== 'undefined' && wb.session.isLinked && wb.session.board.page") for tab in tabs))
+    tally.check("eight tabs are told", all_came(tab.page.wait("typeof wb !== 'undefined' && wb.session.link === 'open' && wb.session.board.page") for tab in tabs))
     page = f"{member.number}/4000"
     tabs[0].page.value(f"wb.session.goToPage('{page}')")
     tally.check("they show one page", all_came(tab.page.wait(f"wb.session.board.page === '{page}' && wb.session.board.drawops.length === 0") for tab in tabs))
@@ -26,14 +26,17 @@ def test_tabs(tally: Tally, browser: Browser, member: Member) -> None:
 
 
 def test_twin(tally: Tally, room: Path, browser: Browser, one: Sheet, member: Member, ports: int) -> None:
-    """Another member with our number: the page says so, and takes a new one."""
+    """Another member with our number: the page goes on by a new one, and says so."""
     words = [str(TOP / "wb-live"), "--ports", str(ports), "--no-web", "--no-terminal", "--me", str(member.number), "--record", str(room / "twin.wb")]
     twin = subprocess.Popen(words, cwd=room, stdin=subprocess.DEVNULL, stdout=subprocess.DEVNULL)
     try:
-        tally.check("a twin is told", one.page.wait("!document.getElementById('twin').hidden"))
-        tally.check("nothing is drawn", one.page.value("wb.session.send('line 0 30 7 30 =').then((answer) => answer.ok)") is False)
-        one.page.value("document.getElementById('renumber').click()")
+        one.page.value("localStorage.setItem('wb-name', 'Ada')")
         tally.check("a new number is taken", one.page.wait(f"wb.session.hello.me !== {member.number} && wb.session.hello.ready && document.getElementById('twin').hidden"))
+        tally.check("which is told", one.page.wait(f"document.getElementById('warnings').textContent.includes('somebody else spoke under our number {member.number}')"))
+        tally.check("one's name goes along", one.page.wait("wb.session.called.get(wb.session.hello.me) === 'Ada'"))
+        taken = one.page.value("wb.session.hello.me")
+        one.page.value("document.getElementById('renumber').click()")
+        tally.check("and to one that people want", one.page.wait(f"wb.session.hello.me !== {taken} && wb.session.called.get(wb.session.hello.me) === 'Ada'"))
         tally.check("by it one draws", one.page.value("wb.session.send('line 0 30 7 30 =').then((answer) => answer.ok)") is True)
     finally:
         twin.terminate()
@@ -49,7 +52,7 @@ def test_end(tally: Tally, one: Sheet, started: Member, again: Callable[[int], M
     anew = again(port)
     tally.check("it says that the address is another one", one.page.wait("document.getElementById('phrase').textContent.includes('started anew')"), one.text_of("phrase"))
     one.page.call("Page.navigate", url=anew.address)
-    tally.check("by that it is there again", one.page.wait("typeof wb !== 'undefined' && wb.session.isLinked && wb.session.hello.me"))
+    tally.check("by that it is there again", one.page.wait("typeof wb !== 'undefined' && wb.session.link === 'open' && wb.session.hello.me"))
     tally.check("the record has kept its number", anew.number == started.number)
     tally.check("and all that was drawn", pages > 0 and one.page.wait(f"wb.session.pages.length === {pages}"), one.text_of("pages"))
     return anew

@@ -19,7 +19,7 @@ TOP = Path(__file__).resolve().parents[2]
 class Member:
     """A member: the program as a user starts it, but for the ports."""
 
-    def __init__(self, room: Path, ports: int, web: int = 0, words: list[str] | None = None) -> None:
+    def __init__(self, room: Path, ports: int, web: int | str = 0, words: list[str] | None = None) -> None:
         words = [str(TOP / "wb-live"), *(words or ["--ports", str(ports), "--teach"]), "--web", str(web), "--no-terminal"]
         environment = {**os.environ, "XDG_STATE_HOME": str(room)}
         self.process = subprocess.Popen(words, cwd=room, env=environment, stdin=subprocess.DEVNULL, stdout=subprocess.PIPE, text=True)

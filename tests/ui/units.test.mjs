@@ -7,12 +7,16 @@ import { HttpMember } from '../../live/ui/connection.js';
 import { htmlOf, svgOf, textOf } from '../../live/ui/exports.js';
 import { clockOf, sceneAt } from '../../live/ui/film.js';
 import { readInk } from '../../live/ui/ink.js';
+import { momentsOf, rowsOf, shownAt } from '../../live/ui/history.js';
+import { placed } from '../../live/ui/inkwriting.js';
 import { Layout } from '../../live/ui/layout.js';
+import { calledBy, isGone, leavesOf } from '../../live/ui/leaves.js';
 import { initialsOf, readNotes, spoken } from '../../live/ui/notes.js';
+import { readBeside, viewLine } from '../../live/ui/points.js';
 import { gripAt, gripsOf, stretchOf, stretched } from '../../live/ui/resizing.js';
 import { Session } from '../../live/ui/session.js';
 import { arrow, filled, plainOf, simplify, stroke, writing } from '../../live/ui/shapes.js';
-import { fullness, nameOfNext, plainly } from '../../live/ui/state.js';
+import { fullness, linked, nameOfNext, plainly } from '../../live/ui/state.js';
 import { inside } from '../../live/ui/tools.js';
 import { check } from '../check.mjs';
 
@@ -157,8 +161,47 @@ function testLetters() {
   check('a colour has no letters', readNotes(['colour~ 3', 'next~ x'].map(at)), readNotes([at('x', 1)]));
 }
 
+/** The pages that are listed, in the order that all agree on. */
+function testLeaves() {
+  const pages = ['1/1', '7/1', '9/3', '8/1'].map((page, i) => ({ page, drawn: i === 3 ? 0 : 2, last: String(10 * i) })), all = [{ page: '0/0', drawn: 9 }, ...pages];
+  const word = (seq, letters) => named(text(0, seq, letters), seq), ordered = (...words) => readNotes(words.map((letters, i) => word(i + 1, letters)));
+  const listed = (inView, ...words) => leavesOf(all, ordered(...words), inView).map(({ page }) => page).join(' ');
+  check('as they were begun, but for the reserved one', listed('1/1'), '1/1 7/1 9/3 8/1');
+  check('one is put behind another, and another first', [listed('1/1', 'place 1/1 9/3'), listed('1/1', 'place 1/1 9/3', 'place 9/3 0/0')], ['7/1 9/3 1/1 8/1', '9/3 7/1 1/1 8/1']);
+  check('what names no page, or itself, moves nothing', listed('1/1', 'place 1/1 5/5', 'place 5/5 1/1', 'place 1/1 1/1', 'place 1/1', 'place x 1/1'), '1/1 7/1 9/3 8/1');
+  check('a deleted page is not listed unless it is in view', [listed('1/1', 'gone 7/1'), listed('7/1', 'gone 7/1'), listed('1/1', 'gone 7/1 x')], ['1/1 7/1 9/3 8/1', '1/1 7/1 9/3 8/1', '1/1 7/1 9/3 8/1']);
+  const told = { places: [['9/3', '7/1'], ['1/1', '9/3']], gone: new Map([['7/1', [{ time: '10' }]], ['9/3', [{ time: '19' }]]]) };
+  check('what was drawn after it was deleted is', leavesOf(pages, told, '8/1').map(({ page }) => page), ['9/3', '1/1', '8/1']);
+  check('by the last time', [isGone(pages[1], told.gone), isGone(pages[2], told.gone), isGone(pages[0], told.gone)], [true, false, false]);
+  check('pages by their places', ['1/1', '9/3', '8/1', '5/5'].map((page) => calledBy(pages, page)), ['Page 1', 'Page 3', 'New page', 'New page']);
+  check('the first page of an empty board', calledBy([{ page: '1/1', drawn: 0 }], '1/1'), 'Page 1');
+}
+
+/** What was erased, a row for each step. */
+function testErased() {
+  const ink = (seq, source, isAgain = false) => ({ ...placed('~s$1!hV#HJ', seq, isAgain), source, seq, time: String(1e6 * seq) });
+  const erased = (drawing, by, seq, at, before = null) => ({ ...drawing, erased: [by, seq, String(at), before] });
+  const rows = (drawops, ...hidden) => rowsOf({ page: '1/1', drawops, hidden, rows: [] }).map(({ by, at, drawings }) => [by, at, drawings.map(({ seq }) => seq)]);
+  const three = [1, 2, 3].map((seq) => erased(ink(seq, 7), 8, 10 + seq, 9e6 + seq * 1e5, seq === 1 ? null : 'delete'));
+  check('what one erased at once is one row, by who erased', rows([], ...three), [[8, 9.1e6, [1, 2, 3]]]);
+  check('one that was restored since is missing in it', rows([ink(2, 7)], three[0], three[2]), [[8, 9.1e6, [1, 3]]]);
+  check('later it is another one, which comes first', rows([], three[0], erased(ink(4, 7), 8, 12, 11e6, 'delete')), [[8, 11e6, [4]], [8, 9.1e6, [1]]]);
+  check('after something else it is another one', rows([], three[0], erased(ink(4, 7), 8, 13, 9.2e6, 'text')), [[8, 9.2e6, [4]], [8, 9.1e6, [1]]]);
+  check('of two members two', rows([], three[0], erased(ink(4, 7), 9, 12, 9.1e6, 'delete')).length, 2);
+  check('what was moved was not erased', rows([ink(5, 8, true)], erased(ink(1, 7), 8, 6, 6e6, 'text'), erased(ink(2, 7), 8, 7, 6e6, 'delete')), []);
+  check('nor is what an undo put back', rows([ink(1, 7)], erased(ink(5, 8, true), 8, 9, 9e6, 'restore')), []);
+  check('what is left of an erased item was drawn new', rows([ink(5, 8)], erased(ink(1, 7), 8, 6, 6e6, 'text')), [[8, 6e6, [1]]]);
+  const far = { ...line(2, 2, 6, 2), source: 8, seq: 5, time: '5' };
+  check('a line of cells that was moved', [rows([far], erased({ ...line(1, 1, 5, 1), source: 7, seq: 1, time: '1' }, 8, 6, 6, 'line')), rows([far], erased({ ...line(1, 1, 6, 1), source: 7, seq: 1, time: '1' }, 8, 6, 6, 'line')).length], [[], 1]);
+  const board = { page: '1/1', drawops: [ink(4, 7)], hidden: three, rows: [] };
+  check('the page as it was', [0, 1.5, 5, 9.15, 9.5].map((at) => shownAt(board, at * 1e6).map(({ seq }) => seq).sort().join('')), ['', '1', '1234', '234', '4']);
+  check('its moments, of a second one', momentsOf(board), [1e6, 2e6, 3e6, 4e6, 9.3e6]);
+}
+
 /** What the member says of itself, in words for everyone. */
 function testState() {
+  check('the connection', [['open', 3], ['lost', 0], ['lost', 1], ['lost', 12], ['gone', 2]].map(([link, many]) => linked(link, many)),
+    ['', 'Offline: what you draw waits here', 'Offline: 1 drawing waits here', 'Offline: 12 drawings wait here', 'This board has another address now']);
   const health = (phrase, missing = 0, warnings = []) => plainly({ phrase, missing, warnings, counts: {} }, true);
   check('in plain words', [health('whole'), health('caught up 3 s ago'), health('2 missing', 2), health('1 missing', 1)].map(({ text }) => text),
     ['Everything is here', 'Everything is here', 'Catching up: 2 drawings', 'Catching up: 1 drawing']);
@@ -220,6 +263,15 @@ async function testSession() {
   check('then it is, where it was drawn', drawn.map(([page, operation]) => `${page} ${operation}`).sort(), ['1/1 line 0 0 1 1 *', '1/1 line 0 0 2 2 *', '1/2 line 0 0 3 3 *']);
 }
 
+function testBeside() {
+  const lines = [viewLine({ x0: -12.4, y0: -0.5, x1: 6400, y1: 8000.6 }), 'call 1764486000', 'line 0 0 4 4 *'];
+  check('what is in view', lines[0], 'view -12 0 6400 8001');
+  check('what a member tells beside', readBeside(lines), { shapes: [line(0, 0, 4, 4)], view: { x0: -12, y0: 0, x1: 6400, y1: 8001 }, follows: null, call: 1764486000 });
+  check('whom it follows', readBeside(['follow 7']), { shapes: [], view: null, follows: 7, call: null });
+  check('what tells nothing', readBeside(['view 1 1 1 9', 'view 1 2 3', 'view 1 2 3 4 5', 'follow -1', 'follow 99999999999', 'call', 'view a b c d', 'viewing 1']), readBeside([]));
+  check('who does not know it draws none of it', lines.slice(0, 2).map(shapeOf), [null, null]);
+}
+
 /** A change is put into the page: some drawings go, others come to their places, and rows are others. */
 function testChanges() {
   const session = new Session({}), many = Array.from({ length: 100 }, (_, i) => named(line(i, 0, i, 1), i + 1)), told = [];
@@ -241,18 +293,48 @@ async function testLateAnswers() {
   const member = new HttpMember('token'), { fetch } = globalThis, late = () => Promise.reject(new Error('signal timed out')), shown = { page: '1/1', drawops: [] };
   const answers = async (/** @type {any} */ answer) => {
     globalThis.fetch = /** @type {any} */ (answer);
-    return [await member.read('1/1'), await member.record(), await member.draw('1/1', 'line 0 0 4 4 *')];
+    return [await member.read('1/1'), await member.record(), await member.choose('1/1')];
   };
-  const none = { ok: false, fault: 'wb-live does not answer' };
+  const none = { ok: false, fault: 'wb-live does not answer', status: 0 };
   try {
     check('what comes', await answers(async () => ({ ok: true, json: async () => shown, text: async () => 'board' })), [shown, 'board', shown]);
     check('what comes in part', await answers(async () => ({ ok: true, json: late, text: late })), [null, null, none]);
     check('what does not come', await answers(late), [null, null, none]);
-    check('what is refused', (await answers(async () => ({ ok: false, json: async () => none }))), [null, null, none]);
+    check('what is refused', (await answers(async () => ({ ok: false, status: 503, json: async () => ({ ok: false, fault: 'busy' }) }))), [null, null, { ok: false, fault: 'busy', status: 503 }]);
   } finally {
     globalThis.fetch = fetch;
   }
 }
 
-for (const each of [testSession, testChanges, testNotes, testLetters, testStretch, testState, testExports,
-  testFilm, testCells, testShapes, testTexts, testWords, testColours, testLayout, testFlood, testOrder, testLateAnswers]) test(each.name.slice('test'.length), each);
+/** What is drawn is asked for under one name until it is answered, many at once, in the order of the hand. */
+async function testAskedAgain() {
+  const member = new HttpMember('token'), { fetch } = globalThis, /** @type {any[]} */ bodies = [], /** @type {any[]} */ told = [];
+  const busy = { ok: false, fault: 'busy', status: 503 }, no = { ok: false, fault: 'word 3', status: 422 };
+  /** @type {((many: any[]) => any)[]} */
+  const answers = [
+    () => { throw new Error('it is away'); },
+    () => ({ ok: false, status: 503, json: async () => busy }),
+    (many) => ({ ok: true, json: async () => ({ ok: true, answers: many.map((_, i) => (i < 2 ? { ok: true, seq: i + 1 } : busy)) }) }),
+    (many) => ({ ok: true, json: async () => ({ ok: true, answers: many.map((_, i) => (i ? no : { ok: true, seq: 3 })) }) }),
+    () => ({ ok: true, json: async () => ({ ok: true, page: '1/2' }) }),
+  ];
+  member.hear = (name, news) => told.push([name, news]);
+  globalThis.fetch = /** @type {any} */ (async (/** @type {string} */ path, /** @type {any} */ { body }) => {
+    bodies.push([path, JSON.parse(body)]);
+    return (/** @type {any} */ (answers[bodies.length - 1]))(bodies[bodies.length - 1][1].many);
+  });
+  try {
+    const given = await Promise.all([...['a', 'b', 'c', 'd'].map((op) => member.draw('1/1', op)), member.choose('1/2')]);
+    const asked = bodies.slice(0, 4).map(([path, { many }]) => [path, many.map((/** @type {any} */ each) => each.op).join('')]);
+    check('what was asked', asked, [['draw', 'a'], ['draw', 'abcd'], ['draw', 'abcd'], ['draw', 'cd']]);
+    check('each under one name', new Set(bodies.slice(0, 4).flatMap(([, { many }]) => many.map((/** @type {any} */ { id, op }) => id + op))).size, 4);
+    check('and what else was asked for after it', bodies[4], ['page', { page: '1/2' }]);
+    check('what came of each', given.map(({ ok, seq }) => (ok ? seq ?? 'turned' : 'no')), [1, 2, 3, 'no', 'turned']);
+    check('how many waited', [told.map(([, many]) => many)[3], told[told.length - 1]], [4, ['unsent', 0]]);
+  } finally {
+    globalThis.fetch = fetch;
+  }
+}
+
+for (const each of [testSession, testBeside, testChanges, testNotes, testLetters, testLeaves, testErased, testStretch, testState, testExports,
+  testFilm, testCells, testShapes, testTexts, testWords, testColours, testLayout, testFlood, testOrder, testLateAnswers, testAskedAgain]) test(each.name.slice('test'.length), each);

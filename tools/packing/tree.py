@@ -78,7 +78,7 @@ def lay_library(library: Path, tree: Path, lib: str) -> None:
 
 
 def lay_parts(built: Built, tree: Path, day: str) -> None:
-    """The manual, completions, the unit, the licence and what it was built of."""
+    """The manual, completions, the unit, the licences and what it was built of."""
     for name in ("wb.1", "wb-live.1"):
         put_page_of_manual(name, tree / "share/man/man1" / name, day)
     for name in ("wb", "wb-live"):
@@ -87,7 +87,8 @@ def lay_parts(built: Built, tree: Path, day: str) -> None:
     for name in ("wb", "wb-live"):
         put(PARTS / "wb.fish", tree / "share/fish/vendor_completions.d" / (name + ".fish"))
     put(PARTS / "wb-live.service", tree / "lib/systemd/user/wb-live.service")
-    put(PARTS / "LICENCE", tree / "share/doc/wb/LICENCE")
+    for name in ("LICENCE", "THIRD-PARTY"):
+        put(PARTS / name, tree / "share/doc/wb" / name)
     put(TOP / "CHANGELOG.md", tree / "share/doc/wb/CHANGELOG.md")
     (tree / "share/doc/wb/BUILT").write_text(built.told)
 

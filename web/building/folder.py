@@ -59,6 +59,7 @@ def lay_files(folder: Path, module: Path) -> None:
             if path.is_file() and not path.name.endswith(".d.ts") and path.name not in (*ELSEWHERE, *(OF_HTTP if part == UI else ())):
                 shutil.copyfile(path, folder / part / path.name)
     shutil.copyfile(TOP / MEMBER / "service.js", folder / "service.js")
+    shutil.copyfile(TOP / "tools/installed/THIRD-PARTY", folder / "THIRD-PARTY.txt")
     for name in ("wb.wasm", "wb-any.wasm"):
         shutil.copyfile(module / name, folder / name)
 

@@ -71,6 +71,9 @@ export class Board {
     /** The moment at which the host has something to do.
      * @type {number | null} */
     this.due = null;
+    /** Lines of the record of which nothing may be sent yet.
+     * @type {string[]} */
+    this.drawn = [];
     /** When the host broke off, in milliseconds.
      * @type {number[]} */
     this.ends = [];
@@ -230,21 +233,26 @@ export class Board {
     return this.act(now, 'wall', (host) => host.wall(now, time));
   }
 
-  /** Has the host draw, which gives a drawing its number and its time. The record has it before anything of it is sent; where it can't have it, nor
-   * does the host any more, and NoRoom says why.
+  /** Has the host draw, which gives a drawing its number and its time, and puts it into the record. Nothing of the block is sent before `settle`.
+   * NoRoom where the record can't be written.
    * @param {string} page @param {string} operation
    * @returns {Promise<{ block: Block, drawop: Drawop | null }>} */
   async draw(page, operation) {
     if (this.record.fault && !await this.record.keep([TRIED])) throw new NoRoom(this.record.fault);
     const block = await this.tell(`add ${this.now()} ${page} ${operation}`), lines = block.said('record'), line = lines.find((one) => one.startsWith('say '));
-    if (lines.length && !await this.record.keep(lines)) {
-      const { fault } = this.record;
-      await this.beginAgain();
-      throw new NoRoom(fault);
-    }
-    const drawop = line === undefined ? null : drawopIn(line);
-    if (drawop) this.hold(drawop);
-    return { block, drawop };
+    if (lines.length) this.record.add(...lines);
+    this.drawn.push(...lines);
+    return { block, drawop: line === undefined ? null : drawopIn(line) };
+  }
+
+  /** Puts what was drawn on the disk, all by one transaction, and gives what may be sent then. What can't be put there is as if it was never drawn,
+   * also to the host, and nobody was told of its numbers.
+   * @param {Drawop[]} drawops */
+  async settle(drawops) {
+    const lost = await this.record.settle(this.drawn.splice(0)), settled = drawops.filter(({ words }) => !lost.includes(`say ${words}`));
+    if (lost.length) await this.beginAgain();
+    settled.forEach(this.hold);
+    return settled;
   }
 
   /** Puts lines into the record.

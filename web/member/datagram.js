@@ -1,4 +1,4 @@
-/** Datagrams, read once from their bytes as they go by: what the page shows of them, with their words as `wb words` says them (docs/FORMAT.md).
+/** Datagrams, read once from their bytes as they go by: what the page shows of them, with their words as `wb words` says them (docs/SCRIPTS.md).
  * What is done about them the host says, which drops what has a number out of its range; here such a number passes. */
 export { unhex } from './host.js';
 

@@ -1,5 +1,10 @@
 /** The drawops that the host holds, by page. What of them a page shows, the host says (showing.js). As `live/drawn.py`. */
 
+import { aimedBy, isDrawing, nameOf } from './views.js';
+
+/** Microseconds of a second. */
+const SECOND = 1_000_000;
+
 /** @typedef {import('./views.js').Drawop} Drawop */
 
 /** One page: its drawops in the order in which they came. */
@@ -10,6 +15,12 @@ export class Sheet {
     /** The greatest number of each source.
      * @type {Map<number, number>} */
     this.tops = new Map();
+    /** The least time of its drawops, and the greatest of what was drawn or restored. */
+    this.begun = Infinity;
+    this.last = 0;
+    /** The deletes and restores of each drawing.
+     * @type {Map<string, Drawop[]>} */
+    this.aimed = new Map();
   }
 
   /** Whether it is new.
@@ -18,8 +29,39 @@ export class Sheet {
     const { name, source, seq } = drawop;
     if (this.drawops.has(name)) return false;
     this.drawops.set(name, drawop);
+    this.begun = Math.min(this.begun, drawop.time);
+    if (drawop.operation[0] !== 'delete') this.last = Math.max(this.last, drawop.time);
+    if (!isDrawing(drawop)) this.aimed.set(aimedBy(drawop), [...this.aimed.get(aimedBy(drawop)) ?? [], drawop]);
     this.tops.set(source, Math.max(seq, this.tops.get(source) ?? 0));
     return true;
+  }
+
+  /** The delete that took a drawing away: the first after its last restore.
+   * @param {string} name @returns {Drawop | null} */
+  eraser(name) {
+    const words = [...this.aimed.get(name) ?? []].sort((a, b) => a.time - b.time || a.source - b.source || a.seq - b.seq);
+    return words.reduce((/** @type {Drawop | null} */ found, drawop) => (drawop.operation[0] === 'restore' ? null : found ?? drawop), null);
+  }
+
+  /** What the source of a delete did just before it here, if that was within a second, and is not what it takes back.
+   * @param {Drawop} drawop */
+  before(drawop) {
+    const { source, page, seq, time } = drawop, found = this.drawops.get(nameOf({ source, page, seq: seq - 1 }));
+    const isBack = found?.operation[0] === 'restore' && aimedBy(found) === aimedBy(drawop);
+    return found && time - found.time <= SECOND && !isBack ? found : null;
+  }
+
+  /** What its source did next here.
+   * @param {Drawop} drawop */
+  after({ source, page, seq }) {
+    return this.drawops.get(nameOf({ source, page, seq: seq + 1 }));
+  }
+
+  /** The time of its first drawop that has none of these names; of a page that has no other, that of its first.
+   * @param {Set<string>} names */
+  begunBy(names) {
+    const times = names.size ? [...this.drawops.values()].filter(({ name }) => !names.has(name)).map(({ time }) => time) : [];
+    return times.length ? times.reduce((least, time) => Math.min(least, time)) : this.begun;
   }
 
   /** Whether all that is held is among these names.

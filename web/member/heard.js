@@ -32,7 +32,7 @@ export class Heard {
    * @param {import('./datagram.js').Datagram} report */
   note({ speaker, echoes }) {
     const { me, moment: at } = this.board, [, sent, held] = echoes.find(([who]) => who === me) ?? [];
-    if (sent !== undefined) this.echoes.set(speaker, { at, delay: (at - Number(sent) - Number(held)) / 2 });
+    if (sent !== undefined) this.echoes.set(speaker, { at, delay: Math.max(0, at - Number(sent) - Number(held)) / 2 });
     this.isOld = true;
   }
 

@@ -44,7 +44,9 @@ const GONE_AFTER = 60 * SECOND, GONE_AFTER_REPORTS = 3, LEAST_INTERVAL = 2 * SEC
  * @property {(drawop: import('./views.js').Drawop) => void} hold   the host has taken in a drawop
  * @property {() => Promise<void>} tick   the host does what is due
  * @property {() => Promise<void>} repeat   what we drew last goes out once more
- * @property {() => Promise<void>} begin   from now on it may draw */
+ * @property {() => Promise<void>} begin   from now on it may draw
+ * @property {() => boolean} mayPart   whether it takes a new number by itself
+ * @property {() => Promise<void>} part   it does so */
 
 export class Judging {
   /** @param {Judged} member */
@@ -65,6 +67,7 @@ export class Judging {
     const plan = board.due === null ? [] : [[board.due, () => member.tick()]];
     if (tail !== null) plan.push([tail, () => member.repeat()]);
     if (this.tuning !== board.tuning) plan.push([board.moment, () => board.tune(this.tuning)]);
+    if (this.hasTwin && member.mayPart()) plan.push([board.moment, () => member.part()]);
     return member.isReady ? plan : [...plan, [board.readyAt, () => member.begin()]];
   }
 

@@ -1,17 +1,17 @@
 /** A member of a session: hands to the host what comes in and what is drawn, ticks when it says, sends what it answers. What it concludes
  * from what that says stands in judging.js, what people do in people.js, and what it tells the board in telling.js. */
 import { Alarms } from './alarms.js';
-import { Board } from './board.js';
+import { Board, NoRoom } from './board.js';
 import { readDatagram } from './datagram.js';
 import { Drawn } from './drawn.js';
 import { HostEnded } from './host.js';
 import { Judging } from './judging.js';
-import { People } from './people.js';
+import { People, Refused } from './people.js';
 import { Presence, isAside, readGone } from './presence.js';
 import { Telling } from './telling.js';
 import { Wire } from './wire.js';
 
-/** The page of names, titles and the chat, which is not turned to by itself (docs/WORDS.md). */
+/** The page of names, titles and the chat, which is not turned to by itself (docs/SCRIPTS.md). */
 const NOTES = '0/0';
 
 /** A turn waits this many milliseconds at most. */
@@ -20,11 +20,19 @@ const LONGEST_WAIT = 1_000;
 /** The longest datagram that every transport carries. */
 const MOST_BYTES = 65_507;
 
+/** How often a member takes a new number by itself within how many milliseconds, if somebody else speaks under its own. After that it draws nothing
+ * until people want a new one. */
+const MOST_PARTINGS = 8, PARTED_LATELY = 3_600_000;
+
+/** A new number, with an empty record.
+ * @typedef {{ me: number, record: import('./record.js').Record }} Fresh */
+
 /** What carries the datagrams of a member, and how many came that were not sealed by our key.
  * @typedef {import('./transports.js').Transport & { foreign?: number }} Carrier */
 
-/** What a member is begun with: what its page says of it, and how its board starts.
- * @typedef {{ notice: string, teach: boolean, start: import('./board.js').Start }} Options */
+/** What a member is begun with: what its page says of it, how its board starts, where it may take new numbers, and who hears that it has begun
+ * under one.
+ * @typedef {{ notice: string, teach: boolean, start: import('./board.js').Start, fresh?: () => Promise<Fresh>, begun?: () => void }} Options */
 
 export class Member {
   /** @param {import('./host.js').Program} program @param {import('./record.js').Record} record @param {number} me
@@ -41,6 +49,9 @@ export class Member {
     this.isReady = false;
     this.isEnded = false;
     this.isAwake = false;
+    /** When it took a new number by itself.
+     * @type {number[]} */
+    this.parted = [];
     this.drawn = new Drawn();
     this.wire = new Wire();
     this.alarms = new Alarms();
@@ -77,6 +88,7 @@ export class Member {
   async turn() {
     const { calls } = this.people;
     for (const call of calls.splice(0)) await call();
+    await this.people.drawAll();
     for (let arrival = this.inbox.next(); arrival; arrival = this.inbox.next()) {
       await this.arrive(arrival);
       if (calls.length) break;
@@ -192,7 +204,7 @@ export class Member {
   /** From now on it may draw. */
   async begin() {
     this.isReady = true;
-    await this.people.begin();
+    await this.people.drawAll();
   }
 
   /** Makes this the page in view.
@@ -211,6 +223,31 @@ export class Member {
     this.judging = new Judging(this);
     this.telling.isChanged = true;
     return { me };
+  }
+
+  /** Goes on under a new number. */
+  async takeNumber() {
+    const { fresh, begun } = this.options;
+    if (!fresh) throw new Refused('no new number');
+    const { me, record } = await fresh(), told = await this.renumber(me, record);
+    begun?.();
+    return told;
+  }
+
+  /** Whether it takes a new number by itself if somebody else has its own: a member by mishap, or somebody who heard us and forges, which look the same. */
+  mayPart() {
+    this.parted = this.parted.filter((at) => performance.now() - at < PARTED_LATELY);
+    return this.options.fresh !== undefined && this.parted.length < MOST_PARTINGS;
+  }
+
+  /** Takes a new number by itself, and says so. If its record can't be written, nothing is drawn, as before. */
+  async part() {
+    const before = this.me;
+    this.parted.push(performance.now());
+    await this.takeNumber().then(({ me }) => this.alarms.warn(`somebody else spoke under our number ${before}: we draw on as member ${me}`), (fault) => {
+      if (!(fault instanceof NoRoom)) throw fault;
+      this.alarms.warn(`no new number: ${fault.message}`);
+    });
   }
 
   /** Ends it: what it has is in the record then. */

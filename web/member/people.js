@@ -22,6 +22,12 @@ const TWIN = 'another member has our number: take a new one';
 /** A drawing or a page is refused, and why. */
 export class Refused extends Error {}
 
+/** A drawing that somebody waits for.
+ * @typedef {{ done: (told: { source: number, seq: number }) => void, fail: (fault: Error) => void }} Waiting */
+
+/** @param {string} why */
+const noRoom = (why) => new Refused(`${why}: nothing is drawn until there is room`);
+
 export class People {
   /** @param {import('./member.js').Member} member */
   constructor(member) {
@@ -29,8 +35,8 @@ export class People {
     /** What is to be done in the next turn.
      * @type {(() => Promise<void>)[]} */
     this.calls = [];
-    /** What waits to be drawn until it may draw.
-     * @type {(() => Promise<void>)[]} */
+    /** What waits to be drawn.
+     * @type {(Waiting & { page: string, operation: string })[]} */
     this.draws = [];
   }
 
@@ -47,46 +53,49 @@ export class People {
    * @param {string} page @param {string} operation @returns {Promise<{ source: number, seq: number }>} */
   draw(page, operation) {
     return new Promise((done, fail) => {
-      const draw = () => this.drawNow(page, operation).then(done, fail);
       this.calls.push(async () => {
-        if (this.member.isReady) await draw();
-        else if (this.draws.length < MOST_WAITING) this.draws.push(draw);
+        if (this.member.isReady || this.draws.length < MOST_WAITING) this.draws.push({ page, operation, done, fail });
         else fail(new Refused('busy'));
       });
       this.member.wake();
     });
   }
 
-  /** From now on the member may draw: it draws what waited. */
-  async begin() {
-    for (const draw of this.draws.splice(0)) await draw();
+  /** Draws what waits. Once all of it is on the disk, it is sent; what the disk does not take is not drawn. */
+  async drawAll() {
+    if (!this.member.isReady || !this.draws.length) return;
+    const { member, member: { judging, board } } = this;
+    /** @type {(Waiting & { drawop: import('./views.js').Drawop })[]} */
+    const drawn = [];
+    /** @type {Uint8Array[]} */
+    const unsent = [];
+    for (const { page, operation, done, fail } of this.draws.splice(0)) {
+      await this.drawNow(page, operation, unsent).then((drawop) => { drawn.push({ drawop, done, fail }); }, fail);
+    }
+    const kept = await board.settle(drawn.map(({ drawop }) => drawop)), settled = new Map(kept.map((drawop) => [drawop.name, drawop]));
+    for (const bytes of kept.length === drawn.length ? unsent : []) {
+      const datagram = member.send(bytes), drawop = datagram?.kind === 'draw' ? settled.get(datagram.name) : null;
+      if (drawop) judging.tails.drew(drawop, bytes, board.moment);
+    }
+    for (const { drawop, done, fail } of drawn) {
+      if (settled.has(drawop.name)) done({ source: member.me, seq: drawop.seq });
+      else fail(noRoom(board.record.fault));
+    }
   }
 
-  /** Accepts a drawop of ours and sends it. Whether it is one, the host says.
-   * @param {string} page @param {string} operation */
-  async drawNow(page, operation) {
+  /** Accepts a drawop of ours. Whether it is one, the host says.
+   * @param {string} page @param {string} operation @param {Uint8Array[]} unsent gets what the host sends */
+  async drawNow(page, operation, unsent) {
     const { member } = this, { judging, board } = member, [kind] = operation.split(' ', 1), isFull = member.drawn.total >= board.cells - Math.floor(board.cells / KEPT);
     if (isFull && page !== WORDS && ['line', 'frame', 'text'].includes(kind)) throw new Refused('full');
     if (!OPERATIONS.includes(kind) || !/^[ -~]*$/.test(operation)) throw new Refused('unknown');
     if (judging.hasTwin) throw new Refused(TWIN);
-    await member.obey(board.tellTime());
-    const { block, drawop } = await this.hostDraws(page, operation);
-    for (const bytes of block.sent()) {
-      const datagram = member.send(bytes);
-      if (drawop && datagram?.kind === 'draw' && datagram.name === drawop.name) judging.tails.drew(drawop, bytes, board.moment);
-    }
+    unsent.push(...(await board.tellTime()).send);
+    const { block, drawop } = await board.draw(page, operation).catch((fault) => { throw fault instanceof NoRoom ? noRoom(fault.message) : fault; });
+    unsent.push(...block.sent());
     if (block.fault !== null) throw new Refused(block.fault.replace(/^(word )(\d+)/, (_all, word, place) => word + (Number(place) - WORDS_BEFORE)));
     if (drawop === null) throw new Refused('full');
-    return { source: member.me, seq: drawop.seq };
-  }
-
-  /** @param {string} page @param {string} operation */
-  async hostDraws(page, operation) {
-    try {
-      return await this.member.board.draw(page, operation);
-    } catch (fault) {
-      throw fault instanceof NoRoom ? new Refused(`${fault.message}: nothing is drawn until there is room`) : fault;
-    }
+    return drawop;
   }
 
   /** Makes this the page in view; null is a new one of ours, or the one in view where that is ours and empty yet.

@@ -90,7 +90,7 @@ export class Presence {
     const point = readPoint(bytes);
     if (!point || point.member === me || !this.heeds(point.member)) return;
     this.others.delete(point.member);
-    if (point.cell) this.others.set(point.member, { at: performance.now(), point });
+    if (point.cell || point.begun.length) this.others.set(point.member, { at: performance.now(), point });
     this.forget();
     this.tell({ others: [...this.others.values()].map((other) => other.point) });
   }

@@ -10,6 +10,9 @@
 const VERSION = 1, WRITTEN_BY = /^# wb record ([0-9]{1,9})$/;
 export const FIRST_LINE = `# wb record ${VERSION}`;
 
+/** Lines without which a number of ours might be used twice: what we drew, and what the start before may have left to be written. */
+const OURS = /^(?:say |# started )/;
+
 /** Milliseconds until lines are written, and after which what could not be written is tried again. */
 const PAUSE = 100, AGAIN = 1_000;
 
@@ -102,9 +105,21 @@ export class Record {
    * @param {string[]} lines */
   async keep(lines) {
     this.waiting.push(...lines);
-    await this.flush();
-    if (this.fault) this.waiting.splice(-lines.length);
-    return !this.fault;
+    return !(await this.settle(lines)).length;
+  }
+
+  /** Done when all lines until now are in the database. Those of the lines given that could not be put there are not in the record any more.
+   * @param {string[]} lines */
+  async settle(lines) {
+    /** @type {string[]} */
+    let lost = [];
+    this.written = this.written.then(async () => {
+      await this.write();
+      if (this.fault) lost = lines.filter((line) => this.waiting.includes(line));
+      this.waiting = this.waiting.filter((line) => !lost.includes(line));
+    });
+    await this.written;
+    return lost;
   }
 
   /** @param {number} pause */
@@ -141,9 +156,11 @@ export class Record {
     this.soon(AGAIN);
   }
 
-  /** @param {number} part @param {string[]} lines */
+  /** Lines of ours are on the disk when this is done: a crash of the machine does not lose them.
+   * @param {number} part @param {string[]} lines */
   async put(part, lines) {
-    const stores = /** @type {IDBDatabase} */ (this.database).transaction(['lines', 'members'], 'readwrite');
+    const durability = lines.some((line) => OURS.test(line)) ? 'strict' : 'default';
+    const stores = /** @type {IDBDatabase} */ (this.database).transaction(['lines', 'members'], 'readwrite', { durability });
     stores.objectStore('lines').put(lines.map((line) => `${line}\n`).join(''), [this.session, this.me, part]);
     stores.objectStore('members').put({ session: this.session, me: this.me, at: Date.now() });
     await done(stores);

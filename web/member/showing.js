@@ -1,17 +1,20 @@
 /** What a page shows, as the host says it: it is asked for what the page shows otherwise than when it was asked last. As `live/showing.py`. */
-import { isDrawing } from './views.js';
+import { aimedBy, isDrawing } from './views.js';
 
 /** @typedef {import('./views.js').Drawop} Drawop */
 
 /** A drawing that is shown, and its place among all that are.
  * @typedef {[number, Drawop]} Placed */
 
+/** A drawing that is hidden, the delete that took it away, and what the source of that did just before.
+ * @typedef {Drawop & { by: Drawop | null, before: Drawop | null }} Erased */
+
 /** A block of `since`: how many drawops the host holds, the names of the drawings that are to be taken off, and those that are to be put in then, one
  * after another.
  * @typedef {{ held: number, hidden: string[], shown: Placed[] }} Since */
 
 /** What became of a page: the drawings that changed and were there before, and those of all that changed that are shown now, and that are hidden now.
- * @typedef {{ before: Drawop[], added: Placed[], hidden: Drawop[] }} Change */
+ * @typedef {{ before: Drawop[], added: Placed[], hidden: Erased[] }} Change */
 
 /** One page at one host. */
 export class Showing {
@@ -26,18 +29,21 @@ export class Showing {
      * @type {Set<string>} */
     this.names = new Set();
     /** The drawings of which the last word is a delete, the one last that was deleted last.
-     * @type {Map<string, Drawop>} */
+     * @type {Map<string, Erased>} */
     this.hidden = new Map();
   }
 
   /** Asks the host once more. What was shown and still is has not changed, though the host may say it.
    * @param {import('./board.js').Board} board @param {import('./drawn.js').Sheet} sheet @returns {Promise<Change>} */
-  async renew(board, { drawops }) {
-    const { held, hidden: taken, shown } = await board.since(this.page, this.held), told = new Set(shown.map(([, { name }]) => name));
+  async renew(board, sheet) {
+    const { drawops } = sheet, { held, hidden: taken, shown } = await board.since(this.page, this.held), told = new Set(shown.map(([, { name }]) => name));
     const gone = new Set(taken.filter((name) => this.names.has(name) && !told.has(name)));
     const added = shown.flatMap(([place, drawop]) => (this.names.has(drawop.name) ? [] : [/** @type {Placed} */ ([place, drawops.get(drawop.name) ?? drawop])]));
-    const changed = touched([...drawops.values()].slice(this.seen)).flatMap((name) => drawops.get(name) ?? []).filter(isDrawing);
-    const hidden = changed.filter(({ name }) => !told.has(name)), before = changed.filter(({ name }) => gone.has(name) || this.hidden.has(name));
+    const fresh = [...drawops.values()].slice(this.seen), isLate = (/** @type {Drawop} */ drawop) => !isDrawing(drawop) && this.hidden.has(aimedBy(drawop));
+    // what a hidden drawing's eraser did before may come after that
+    const late = fresh.flatMap((drawop) => sheet.after(drawop) ?? []).filter(isLate);
+    const changed = touched([...late, ...fresh]).flatMap((name) => drawops.get(name) ?? []).filter(isDrawing);
+    const hidden = changed.filter(({ name }) => !told.has(name)).map((drawop) => erasedOn(sheet, drawop)), before = changed.filter(({ name }) => gone.has(name) || this.hidden.has(name));
     [this.held, this.seen] = [held, drawops.size];
     this.putIn(gone, added, hidden);
     return { before, added, hidden };
@@ -46,10 +52,10 @@ export class Showing {
   /** Whether another host shows the same of the page.
    * @param {Showing | null} other */
   isAs(other) {
-    return other?.page === this.page && areSame(this.shown, other.shown) && areSame([...this.hidden.values()], [...other.hidden.values()]);
+    return other?.page === this.page && areSame(this.shown, other.shown) && areErasedAlike([...this.hidden.values()], [...other.hidden.values()]);
   }
 
-  /** @param {Set<string>} gone @param {Placed[]} added @param {Drawop[]} hidden */
+  /** @param {Set<string>} gone @param {Placed[]} added @param {Erased[]} hidden */
   putIn(gone, added, hidden) {
     if (gone.size) this.shown = this.shown.filter(({ name }) => !gone.has(name));
     for (const name of gone) this.names.delete(name);
@@ -68,13 +74,23 @@ export class Showing {
 /** @param {Drawop[]} one @param {Drawop[]} other */
 const areSame = (one, other) => one.length === other.length && one.every((drawop, i) => drawop === other[i]);
 
+/** @param {Erased[]} one @param {Erased[]} other */
+const areErasedAlike = (one, other) => one.length === other.length && one.every(({ name, by, before }, i) => (
+  name === other[i].name && by === other[i].by && before === other[i].before));
+
+/** @param {import('./drawn.js').Sheet} sheet @param {Drawop} drawop @returns {Erased} */
+function erasedOn(sheet, drawop) {
+  const by = sheet.eraser(drawop.name);
+  return { ...drawop, by, before: by && sheet.before(by) };
+}
+
 /** The names of what these drew, deleted or restored, in the order in which the last of them did so.
  * @param {Drawop[]} drawops */
 function touched(drawops) {
   /** @type {Set<string>} */
   const names = new Set();
   for (const drawop of drawops) {
-    const { name, page, operation } = drawop, aimed = isDrawing(drawop) ? name : `${operation[1]} ${page} ${operation[2]}`;
+    const aimed = isDrawing(drawop) ? drawop.name : aimedBy(drawop);
     names.delete(aimed);
     names.add(aimed);
   }

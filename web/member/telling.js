@@ -3,7 +3,7 @@
 import { COLUMNS } from './board.js';
 import { Reported } from './reported.js';
 import { Showing } from './showing.js';
-import { fieldsOf, orderOfPages } from './views.js';
+import { erasedFieldsOf, fieldsOf, orderOfPages } from './views.js';
 
 /** @typedef {import('./views.js').Drawop} Drawop */
 
@@ -133,7 +133,7 @@ export class Telling {
   toldChange(page, { before, added, hidden }, rows) {
     const others = rows.map((row, y) => /** @type {const} */ ([y, row])).filter(([y, row]) => row !== this.rows[y]);
     return { page, names: before.map(({ source, seq }) => [source, seq]), added: added.map(([at, drawop]) => [at, fieldsOf(drawop)]),
-      hidden: hidden.map(fieldsOf), rows: Object.fromEntries(others), height: rows.length };
+      hidden: hidden.map(erasedFieldsOf), rows: Object.fromEntries(others), height: rows.length };
   }
 
   // ---- what is noticed of what comes in, for people alone
@@ -165,19 +165,26 @@ export class Telling {
 
   // ---- what stands beside it
 
-  /** The pages that are listed, in the order of their numbers, since one turns through them; those of strangers alone stand at the end. If there are
-   * more, the host says which. */
+  /** The pages that are listed, in the order in which they were begun, so all members that hold the same number them alike; those of strangers alone
+   * stand at the end. If there are more, the host says which. */
   async listed() {
     const { me, page, drawn, board } = this.member, drawnOn = drawn.drawnPages().map(([one]) => one), strange = drawn.strangePages(me, board.strange);
     const order = drawnOn.length > MOST_PAGES ? await board.pages(MOST_PAGES) : drawnOn, ours = order.filter((one) => !strange.has(one));
     const chosen = [...new Set([page, ...ours, ...this.reported.pages(), ...order])].slice(0, MOST_PAGES);
-    strange.delete(page);
-    return chosen.sort((one, other) => Number(strange.has(one)) - Number(strange.has(other)) || orderOfPages(one, other));
+    /** What no member gave does not move a page of members.
+     * @type {Map<string, Set<string>>} */
+    const given = new Map();
+    for (const name of board.strange) {
+      const [, on] = name.split(' ');
+      given.set(on, (given.get(on) ?? new Set()).add(name));
+    }
+    const begun = new Map(chosen.map((one) => [one, drawn.sheet(one).begunBy(given.get(one) ?? new Set())])), at = (/** @type {string} */ one) => begun.get(one) ?? Infinity;
+    return chosen.sort((one, other) => Number(strange.has(one)) - Number(strange.has(other)) || (at(one) === at(other) ? orderOfPages(one, other) : at(one) - at(other)));
   }
 
   async tellPages() {
     const { page, drawn } = this.member, pages = await this.listed();
-    this.post('pages', { page, pages: pages.map((one) => ({ page: one, drawn: drawn.count(one) })) });
+    this.post('pages', { page, pages: pages.map((one) => ({ page: one, drawn: drawn.count(one), last: String(drawn.sheet(one).last) })) });
   }
 
   tellMembers() {
@@ -218,5 +225,5 @@ export class Telling {
 /** All of a page.
  * @param {Showing} showing @param {string[]} rows */
 function whole({ page, shown, hidden }, rows) {
-  return { page, columns: COLUMNS, rows, drawops: shown.map(fieldsOf), hidden: [...hidden.values()].map(fieldsOf) };
+  return { page, columns: COLUMNS, rows, drawops: shown.map(fieldsOf), hidden: [...hidden.values()].map(erasedFieldsOf) };
 }

@@ -22,6 +22,10 @@ export function isDrawing({ operation }) {
   return ['line', 'frame', 'text'].includes(operation[0]);
 }
 
+/** The name of the drawing at which a delete or a restore is aimed.
+ * @param {Drawop} drawop */
+export const aimedBy = ({ page, operation: [, source, seq] }) => `${source} ${page} ${seq}`;
+
 /** @param {Name} name */
 export const nameOf = ({ source, page, seq }) => `${source} ${page} ${seq}`;
 
@@ -33,6 +37,11 @@ export function fieldsOf({ source, seq, operation, words }) {
   const [x0, y0, x1, y1] = rest.slice(0, 4).map(Number);
   return /** @type {any} */ ({ ...told, x0, y0, x1, y1, glyph: rest[4] });
 }
+
+/** What a board gets of a hidden drawing: with who erased it, under which number and when, and of which kind the operation before was.
+ * @param {Drawop & { by: Drawop | null, before: Drawop | null }} erased */
+export const erasedFieldsOf = ({ by, before, ...drawop }) => ({ ...fieldsOf(drawop),
+  erased: by && /** @type {any} */ ([by.source, by.seq, by.words.split(' ', 5)[4], before && before.operation[0]]) });
 
 /** The text that stands in quotes, with a backslash before each quote and each backslash in it.
  * @param {string} quoted */

@@ -93,9 +93,6 @@ const startOf = ({ broker, more }, mayHaveDrawn) => ({
 
 /** @type {Member} */
 let member;
-/** Has the member take a new number, with a record of its own.
- * @type {() => Promise<{ me: number }>} */
-let renumber;
 
 /** @param {Beginning} beginning */
 async function begin({ folder, invitation, me: wished, notice }) {
@@ -105,20 +102,19 @@ async function begin({ folder, invitation, me: wished, notice }) {
   const { me, isKept, later } = await findNumber(database, identity, wished), inbox = new Inbox();
   const transport = await openTransport(invitation, me, (bytes, origin) => member?.take(bytes, origin), () => member?.beginAgain());
   inbox.worse = worseOf(more);
-  const options = { notice, teach: more.teach === '1', start: startOf(invitation, isKept) };
+  const begun = () => post('begun', { me: member.me, session: invitation.session, module: program.wide ? 'wb.wasm' : 'wb-any.wasm' });
+  const fresh = async () => {
+    const number = await newNumber(identity);
+    return { me: number, record: new Lines(database, identity, number) };
+  };
+  const options = { notice, teach: more.teach === '1', start: startOf(invitation, isKept), fresh, begun };
   member = new Member(program, new Lines(database, identity, me), me, inbox, transport, options, post);
   if (later) member.alarms.warn('this browser has a record of a later build of this page, which stays as it is');
   if (!database) member.alarms.warn('this browser keeps no record: what is drawn here vanishes with this page, if nobody else has it');
   await member.open();
-  const begun = () => post('begun', { me: member.me, session: invitation.session, module: program.wide ? 'wb.wasm' : 'wb-any.wasm' });
-  renumber = async () => {
-    const fresh = await newNumber(identity), told = await member.people.call(() => member.renumber(fresh, new Lines(database, identity, fresh)));
-    begun();
-    return told;
-  };
   Object.assign(globalThis, { member }); // for tests, and for who looks in
   begun();
-  post('link', true);
+  post('link', 'open');
   await member.run();
 }
 
@@ -130,7 +126,7 @@ const CALLS = {
   read: (page) => member.people.call(() => member.telling.boardOf(page)),
   record: () => member.people.call(() => member.people.record()),
   point: (page, cell, begun) => member.people.point(page, cell, begun),
-  renumber: () => renumber(),
+  renumber: () => member.people.call(() => member.takeNumber()),
 };
 
 /** @param {{ id: number, call: string, words: any[] }} asked */

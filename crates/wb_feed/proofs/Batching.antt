@@ -1,7 +1,9 @@
 -- What the workers accepted and what was taken again, as one batch.
-use Rattle.std.proofs.Common.{◌≡◌, ℕ, ◌+◌, ◌≤◌, ◌<◌, List, [], ◌∷◌, ◌++◌, length, map, get_or, refl, ap, sym, subst, ◌∙◌, inl, inr, arith, append_assoc, Option}
+use Rattle.std.proofs.Common.{◌≡◌, ℕ, ◌+◌, ◌≤◌, ◌<◌, List, [], ◌∷◌, ◌++◌, length, map, get_or, refl, ap, sym, subst, ◌∙◌, inl, inr, ⊎_elim, arith, append_assoc, Option, Result, Err, take}
 use Rattle.std.proofs.lemmas.List.{map-append}
-use Rattle.std.specs.Prelude.{All}
+use Rattle.std.specs.Prelude.{All, Contains}
+use Rattle.std.proofs.lemmas.Option.{get_or_from_slice_get, slice_get_within}
+use Rattle.wb_names.proofs.Listings.{Contains-cases, Contains-none}
 use Rattle.std.proofs.lemmas.Bool.Decides.{nat_tests}
 use Rattle.std.proofs.lemmas.List.Elements.{All-nil, All-cons, filter-append}
 use Rattle.std.specs.List.Sorted.{IsPermutation}
@@ -10,17 +12,23 @@ use mathlib.Core.List.{IsPrefix}
 use Rattle.wb_names.specs.Values.{DrawopValue}
 use Rattle.wb_names.specs.History.{HoldsName}
 use Rattle.wb_names.specs.Arrivals.{New, Again, Clash, Left, Counts, counts, counts_of}
-use Rattle.wb_board.specs.Desks.{PassValue, IsSound}
+use Rattle.wb_board.specs.Desks.{PassValue, IsSound, AddsNothing}
 use Rattle.wb_feed.specs.declared.channel.ChannelView.{ChannelView}
 use Rattle.wb_board.specs.declared.reply.Reply.{Reply}
 use Rattle.wb_feed.specs.declared.channel.Message.{Message}
+use Rattle.wb_feed.specs.declared.channel.Message.TheVariants.{Take, End}
+use Rattle.wb_feed.specs.declared.workers.WorkFault.{WorkFault}
+use Rattle.wb_feed.specs.declared.workers.WorkFault.TheVariants.{Start}
 use Rattle.wb_feed.specs.declared.batch.Batch.{Batch}
-use Rattle.wb_feed.specs.Accepts.{Entry, Runs, drawops, tally}
+use Rattle.wb_feed.specs.Accepts.{Loses, Entry, Runs, drawops, tally}
 use Rattle.wb_feed.specs.Batches.{counted, counts_in, Takes, IsShared, IsSettled}
-use Rattle.wb_feed.specs.Workers.{nobody, worker, Work, Worked}
-use Rattle.wb_feed.specs.Channel.{once_below, IsComplete, AreRight, spots}
-use Rattle.wb_feed.specs.Marks.{unmarked, Marks, told_at, told_outcomes, AreOnce, filled, filed_outcomes, Files, Settles}
-use Rattle.wb_feed.specs.Served.{Spot, is_left, entries, accepted_at, offered, told_of, OffersRight, times_offered, Serves}
+use Rattle.wb_feed.specs.Workers.{nobody, worker, Work}
+use Rattle.wb_feed.specs.Inside.Working.{Worked, MayLose, lost_in}
+use Rattle.wb_feed.specs.Served.{once_below, Spot, is_left, entries, accepted_at, offered, OffersRight, times_offered, Serves}
+use Rattle.wb_feed.specs.Inside.Channel.{IsComplete, AreRight, spots}
+use Rattle.wb_feed.specs.Marks.{unmarked, Marks}
+use Rattle.wb_feed.specs.Inside.Filing.{told_at, told_outcomes, AreOnce, filled, filed_outcomes, Files, Settles}
+use Rattle.wb_feed.specs.Inside.Serving.{told_of, received}
 use Rattle.wb_board.proofs.InOrder.{one_run}
 use Rattle.wb_feed.proofs.Log.{is_taken, chosen, taken_or_left, tally-append, left_many, AreAnswered, Gathers, gathers_none, gathers_run, runs_empty, runs_sound}
 use Rattle.wb_feed.proofs.Drawops.{nothing, at_named}
@@ -28,7 +36,8 @@ use Rattle.wb_feed.proofs.Numbers.{times}
 use Rattle.wb_feed.proofs.OneThread.{counted_as, same_counts}
 use Rattle.wb_feed.proofs.OneWorker.{in_given_order}
 use Rattle.wb_feed.proofs.Placing.{places_and_rest, accepted_few, serves_offer, serves_offered, workers_offer, workers_offered, workers_gather, taken_at}
-use Rattle.wb_feed.proofs.Prefixes.{prefix_length}
+use Rattle.wb_feed.proofs.Prefixes.{prefix_length, take_prefix}
+use Rattle.wb_feed.proofs.Rows.{Among, prefix_among, loses_wider, lost_both, adds_none}
 use Rattle.wb_feed.proofs.OneRun.{in_some_order}
 use Rattle.wb_feed.proofs.WholeDesks.{left_lacks, stays_whole}
 
@@ -53,6 +62,29 @@ taken_names h ((d, Left) ∷ es) t = taken_names h es t.1
 taken_names h ((d, New i) ∷ es) t = All-cons (λ (d : DrawopValue). HoldsName h d.name) d (drawops (chosen is_taken es)) (at_named h i d d t.0 refl) (taken_names h es t.1)
 taken_names h ((d, Again i) ∷ es) t = All-cons (λ (d : DrawopValue). HoldsName h d.name) d (drawops (chosen is_taken es)) (at_named h i d d t.0 refl) (taken_names h es t.1)
 taken_names h ((d, Clash i) ∷ es) t = All-cons (λ (d : DrawopValue). HoldsName h d.name) d (drawops (chosen is_taken es)) (at_named h i t.0.0 d t.0.1 t.0.2) (taken_names h es t.1)
+
+-- what was received was sent
+right_among : (sent : List DrawopValue) (ms : List Message) → AreRight sent ms → Among (received ms) sent
+right_among sent [] right d c = absurd (Contains-none d c)
+right_among sent (Take p e ∷ ms) right d c = ⊎_elim
+    (λ (is : e ≡ d). subst (Contains sent) is (p, slice_get_within sent p e right.0, get_or_from_slice_get sent p e e right.0))
+    (λ (more : Contains (received ms) d). right_among sent ms right.1 d more) (Contains-cases e d (received ms) c)
+right_among sent (End ∷ ms) right d c = right_among sent ms right.1 d c
+
+received_came : (h : ChannelView) (arrived : List DrawopValue) → IsComplete h → IsPrefix h.sent arrived → Among (received h.got) arrived
+received_came h arrived complete sent d c = prefix_among h.sent arrived sent d (right_among h.sent h.got complete.right d c)
+
+-- nothing was lost since all passes came back, and the answers tell of one loss
+pub kept_since : {X Y : Type 0} (out : ℕ) (h k : ChannelView) (arrived : List DrawopValue) (p q s : PassValue) (r : Result X WorkFault) (o : Result Y WorkFault) → IsComplete h → k ≡ h → take (length k.sent) arrived ≡ k.sent → lost_in o ≡ lost_in r
+    → MayLose out (received h.got) p r q → Loses 0 arrived q s → MayLose out arrived p o s
+kept_since out h k arrived p q s r o complete is first same l since =
+    let among = received_came h arrived complete (take_prefix h.sent arrived (subst (λ (v : ChannelView). take (length v.sent) arrived ≡ v.sent) is first)) in
+    let zero : lost_in r + 0 ≡ lost_in o = omega (arith, same) in
+    record { rows = subst (λ n. Loses n arrived p s) zero (lost_both (lost_in r) 0 arrived p q s (loses_wider (lost_in r) (received h.got) arrived p q among l.rows) since); few = omega (arith, same, l.few) }
+
+-- after a refused thread nothing was added, since nothing came
+pub none_started : {X : Type 0} (out : ℕ) (arrived : List DrawopValue) (p q : PassValue) (r : Result X WorkFault) → IsSound p → IsSound q → r ≡ Err Start → arrived ≡ [] → MayLose out arrived p r q → AddsNothing p q
+none_started out arrived p q r sp sq start none l = adds_none p q sp sq (subst (λ (ds : List DrawopValue). Loses 0 ds p q) none (subst (λ n. Loses n arrived p q) (ap lost_in start) l.rows))
 
 once_rises : (i m n : ℕ) → m ≤ n → once_below i m ≤ once_below i n
 once_rises i m n h = grind (arith, nat_tests)

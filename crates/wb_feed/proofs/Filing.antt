@@ -2,21 +2,24 @@
 use Rattle.std.proofs.Common.{◌≡◌, ◌≢◌, ℕ, zero, suc, ◌+◌, ◌≤◌, ◌<◌, ◌==◌, ◌||◌, Bool, true, false, cond, List, [], ◌∷◌, ◌++◌, length, take, get_or, set, refl, ap, ap₂, sym, subst, ◌∙◌, arith, length-take, length-set, get_or-set_same, get_or-set_other, Option, Some, None, ⊎_elim}
 use Rattle.std.proofs.lemmas.Bool.{cases_lt}
 use Rattle.std.proofs.lemmas.List.{append-nil, length-replicate, take_more, length-map, map-append, map-set}
-use Rattle.std.specs.Prelude.{replicate, is_some}
+use Rattle.std.specs.Prelude.{replicate, is_some, Contains}
+use Rattle.wb_names.proofs.Listings.{Contains-here, Contains-there, Contains-cases, Contains-none, Contains-from_take}
 use Rattle.wb_names.specs.Values.{DrawopValue}
 use Rattle.wb_names.specs.Arrivals.{Outcome, Counts, counts, counts_of}
 use Rattle.wb_board.specs.Desks.{PassValue}
 use Rattle.wb_board.specs.Replies.{outcome}
 use Rattle.wb_board.specs.declared.reply.Reply.{Reply}
-use Rattle.wb_feed.specs.Accepts.{LosesAtMost, Accepts, Entry}
+use Rattle.wb_feed.specs.Accepts.{Loses, Accepts, Entry, drawops}
 use Rattle.wb_feed.specs.declared.batch.Batch.{Batch}
 use Rattle.std.proofs.lemmas.Bool.{cases_eq}
 use Rattle.std.proofs.Math.Bool.{or-false, or-true}
 use Rattle.std.proofs.Math.Nat.{add_comm, add_left_comm}
 use Rattle.wb_feed.proofs.Numbers.{test_apart, test_same, times-append, has_false, once_past, once_under}
 use Rattle.wb_feed.proofs.OneThread.{plus, same_counts, counts_of-append}
-use Rattle.wb_feed.proofs.Log.{one_kind, runs_more, runs_leave, leaves_lose, tally-append}
-use Rattle.wb_feed.specs.Marks.{has, unmarked, Marks, CountsOne, told_at, told_outcomes, times, AreOnce, filled, filed_outcomes, Files, IsPut, Settles}
+use Rattle.wb_feed.proofs.Log.{one_kind, runs_more, runs_leave, tally-append}
+use Rattle.wb_feed.proofs.Rows.{Among, loses_wider, leaves_lose}
+use Rattle.wb_feed.specs.Marks.{has, unmarked, Marks}
+use Rattle.wb_feed.specs.Inside.Filing.{CountsOne, told_at, told_outcomes, times, AreOnce, filled, filed_outcomes, Files, IsPut, Settles}
 
 has-append : (p : ℕ) (xs ys : List ℕ) → has p (xs ++ ys) ≡ (has p xs || has p ys)
 has-append p [] ys = refl
@@ -29,6 +32,14 @@ unmarked-append (m ∷ ms) ns [] es e = absurd (omega (arith, e))
 unmarked-append (m ∷ ms) ns (d ∷ ds) es e =
     elim m as (λ b. cond b (unmarked (ms ++ ns) (ds ++ es)) (d ∷ unmarked (ms ++ ns) (ds ++ es)) ≡ cond b (unmarked ms ds) (d ∷ unmarked ms ds) ++ unmarked ns es)
     [ true ↦ unmarked-append ms ns ds es (omega (arith, e)) | false ↦ ap (λ l. d ∷ l) (unmarked-append ms ns ds es (omega (arith, e))) ]
+
+unmarked_among : (ms : List Bool) (ds : List DrawopValue) → Among (unmarked ms ds) ds
+unmarked_among [] ds d c = absurd (Contains-none d c)
+unmarked_among (m ∷ ms) [] d c = c
+unmarked_among (m ∷ ms) (e ∷ ds) d c =
+    let rest = λ (k : Contains (unmarked ms ds) d). Contains-there e d ds (unmarked_among ms ds d k) in
+    elim m as (λ b. Contains (cond b (unmarked ms ds) (e ∷ unmarked ms ds)) d → Contains (e ∷ ds) d)
+    [ true ↦ rest | false ↦ λ k. ⊎_elim (λ (s : e ≡ d). subst (Contains (e ∷ ds)) s (Contains-here e ds)) rest (Contains-cases e d (unmarked ms ds) k) ] c
 
 -- ---- what is filed at the first places
 
@@ -101,8 +112,10 @@ rest_more p q r fs ds i b c d lt e free is h one =
       few = omega (arith, h.few, kind, one.2.fresh, one.2.again, one.2.clash, one.2.left);
     }
 
-pub rest_keeps : (p q : PassValue) (fs : List (Option Reply)) (ds : List DrawopValue) (i : ℕ) (b : Batch) → RestSoFar p fs ds i q b → LosesAtMost 0 p q
-rest_keeps p q fs ds i b h = leaves_lose p q h.settled.log (runs_leave p q h.settled.log h.settled.runs)
+pub rest_keeps : (p q : PassValue) (fs : List (Option Reply)) (ds : List DrawopValue) (i : ℕ) (b : Batch) → RestSoFar p fs ds i q b → Loses 0 ds p q
+rest_keeps p q fs ds i b h =
+    let k = h.settled in
+    loses_wider 0 (drawops k.log) ds p q (λ d c. Contains-from_take i ds d (unmarked_among (filled (take i fs)) (take i ds) d (subst (λ (l : List DrawopValue). Contains l d) k.all c))) (leaves_lose p q k.log (runs_leave p q k.log k.runs))
 
 -- ---- filing
 

@@ -2,6 +2,7 @@ pub mod Prefixes
 pub mod Numbers
 pub mod Drawops
 pub mod Log
+pub mod Rows
 pub mod OneThread
 pub mod WholeDesks
 pub mod InOrder

@@ -9,10 +9,9 @@ use Rattle.wb_names.specs.Values.{DrawopValue}
 use Rattle.wb_names.specs.History.{IsAgainAt, IsClashAt}
 use Rattle.wb_names.specs.Arrivals.{Outcome, New, Again, Clash, Left, Counts, counts, counts_of}
 use Rattle.wb_board.specs.Desks.{PassValue, KeepsRows, AddsNothing, IsSound, IsWhole, IsSplit}
-use Rattle.wb_feed.specs.Accepts.{Keeps, Loses, LosesAtMost, Accepts, Entry, drawops, outcomes, tally, Runs}
+use Rattle.wb_feed.specs.Accepts.{Keeps, Accepts, Entry, drawops, outcomes, tally, Runs}
 use Rattle.wb_feed.proofs.Prefixes.{prefix_self, prefix_is, prefix_trans, prefix_get}
-use Rattle.wb_feed.specs.Channel.{once_below}
-use Rattle.wb_feed.specs.Served.{is_left}
+use Rattle.wb_feed.specs.Served.{once_below, is_left}
 use Rattle.wb_feed.specs.Workers.{IsBack}
 use Rattle.wb_feed.proofs.Numbers.{times, times-append, each_once}
 use Rattle.wb_feed.proofs.OneThread.{plus, same_counts, counts_of-append}
@@ -186,34 +185,6 @@ runs_leave p q (e ∷ es) r =
       free = omega (arith, a.free, b.free, s.fresh);
       answered = (says_longer r.0.seen q.seen e.0 e.1 b.kept.seen a.answered.0, b.answered);
     }
-
--- no row is lost by the accepts of one desk
-pub leaves_lose : (p q : PassValue) (es : List Entry) → Leaves p es q → LosesAtMost 0 p q
-leaves_lose p q es l =
-    let many : length q.mine ≡ length p.mine + length (places es) = ap length l.mine ∙ length-append p.mine (places es) in
-    record { kept = l.kept; places = (places es, sym l.mine); none_more = omega (arith, l.free, many, places_many es); rows = omega (arith, l.free, many, places_many es) }
-
-rows_stay : (p q : PassValue) → Keeps p q → KeepsRows p q → LosesAtMost 0 p q
-rows_stay p q k r = record { kept = k; places = prefix_is p.mine q.mine r.0; none_more = omega (arith, r.1, ap length r.0); rows = omega (arith, r.1, ap length r.0) }
-
-pub loses_is : (p q : PassValue) → q ≡ p → LosesAtMost 0 p q
-loses_is p q e = rows_stay p q (keeps_is p q e) (ap (λ (x : PassValue). x.mine) e, ap (λ (x : PassValue). x.free) e)
-
--- none is lost
-pub loses_none : (p q : PassValue) → LosesAtMost 0 p q → Loses 0 p q
-loses_none p q l = record { kept = l.kept; places = l.places; rows = omega (arith, l.none_more, l.rows) }
-
--- one loss after another
-pub loses_trans : (m n k : ℕ) (p q r : PassValue) → m + n ≤ k → LosesAtMost m p q → LosesAtMost n q r → LosesAtMost k p r
-loses_trans m n k p q r le a b = record {
-  kept = keeps_trans p q r a.kept b.kept;
-  places = prefix_trans p.mine q.mine r.mine a.places b.places;
-  none_more = omega (arith, a.none_more, b.none_more);
-  rows = omega (arith, le, a.rows, b.rows);
-}
-
-pub lost_both : (m n : ℕ) (p q r : PassValue) → Loses m p q → Loses n q r → Loses (m + n) p r
-lost_both m n p q r a b = record { kept = keeps_trans p q r a.kept b.kept; places = prefix_trans p.mine q.mine r.mine a.places b.places; rows = omega (arith, a.rows, b.rows) }
 
 -- a desk that owns all rows still does
 pub leaves_whole : (p q : PassValue) (es : List Entry) → Leaves p es q → IsWhole p → IsWhole q

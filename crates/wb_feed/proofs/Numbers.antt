@@ -7,9 +7,9 @@ use Rattle.std.specs.List.Sorted.{IsPermutation}
 use Rattle.std.proofs.lemmas.List.Sorted.{IsPermutation-refl, IsPermutation-sym, IsPermutation-cons, IsPermutation-trans, IsPermutation-middle}
 use Rattle.std.specs.Prelude.{All, AllPairs}
 use Rattle.std.proofs.lemmas.List.Elements.{All-head, All-tail}
-use Rattle.wb_feed.specs.Channel.{once_below}
+use Rattle.wb_feed.specs.Served.{once_below}
 use Rattle.wb_feed.specs.Marks.{has}
-pub use Rattle.wb_feed.specs.Marks.{times}
+pub use Rattle.wb_feed.specs.Inside.Filing.{times}
 
 pub times-append : (p : ℕ) (xs ys : List ℕ) → times p (xs ++ ys) ≡ times p xs + times p ys
 times-append p [] ys = omega arith

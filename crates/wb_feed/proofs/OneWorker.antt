@@ -14,8 +14,7 @@ use Rattle.wb_feed.proofs.OneThread.{Lacks, both_batches, counted_as, same_count
 use Rattle.wb_feed.proofs.InOrder.{in_order}
 use Rattle.wb_feed.proofs.Drawops.{at_named}
 use Rattle.wb_feed.specs.declared.channel.Message.{Message}
-use Rattle.wb_feed.specs.Channel.{once_below}
-use Rattle.wb_feed.specs.Served.{Spot, is_left, entries, accepted_at, offered, OffersRight, times_offered, Rises, Serves}
+use Rattle.wb_feed.specs.Served.{once_below, Spot, is_left, entries, accepted_at, offered, OffersRight, times_offered, Rises, Serves}
 use Rattle.wb_feed.specs.Marks.{has, unmarked, Marks}
 use Rattle.wb_feed.proofs.Placing.{accepted_few}
 

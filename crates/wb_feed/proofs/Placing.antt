@@ -19,8 +19,8 @@ use Rattle.wb_feed.proofs.Log.{is_taken, chosen, Gathers, gathers_none, gathers_
 use Rattle.wb_feed.proofs.OneThread.{zero_plus}
 use Rattle.wb_feed.specs.declared.channel.Message.{Message}
 use Rattle.wb_feed.specs.declared.channel.Message.TheVariants.{Take, End}
-use Rattle.wb_feed.specs.Channel.{spots, once_below, AreRight}
-use Rattle.wb_feed.specs.Served.{Spot, entries, accepted_at, takes, offered, OffersRight, times_offered, Serves}
+use Rattle.wb_feed.specs.Inside.Channel.{spots, AreRight}
+use Rattle.wb_feed.specs.Served.{once_below, Spot, entries, accepted_at, takes, offered, OffersRight, times_offered, Serves}
 use Rattle.wb_feed.specs.Marks.{has, unmarked, Marks}
 use Rattle.wb_feed.specs.Workers.{Workers, nobody, worker}
 use Rattle.wb_feed.proofs.Rules.{spots-append}

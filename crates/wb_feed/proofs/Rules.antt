@@ -12,8 +12,8 @@ use Rattle.wb_feed.proofs.Prefixes.{prefix_get}
 use Rattle.wb_feed.specs.declared.channel.Message.{Message}
 use Rattle.wb_feed.specs.declared.channel.Message.TheVariants.{Take, End}
 use Rattle.wb_feed.specs.declared.channel.ChannelView.{ChannelView}
-use Rattle.wb_feed.specs.Sent.{IsNext}
-use Rattle.wb_feed.specs.Channel.{channel_view, sent_with, sends, receives, spots, IsRight, AreRight, IsBelow, AreBelow, Follows, IsRow, total, Fits, Kept, IsComplete}
+use Rattle.wb_feed.specs.Inside.Sent.{IsNext}
+use Rattle.wb_feed.specs.Inside.Channel.{channel_view, sent_with, sends, receives, spots, IsRight, AreRight, IsBelow, AreBelow, Follows, IsRow, total, Fits, Kept, IsComplete}
 
 -- what stands in a list after one element was set, and after one was put at the end
 at_set : (views : List ChannelView) (pass j : ℕ) (v w : ChannelView) → get_elem? (set views pass v) j ≡ some w → ((j ≡ pass) × (v ≡ w)) ⊎ ((j ≢ pass) × (get_elem? views j ≡ some w))

@@ -7,8 +7,8 @@ use Rattle.wb_feed.proofs.Prefixes.{prefix_self, prefix_trans, prefix_take, take
 use Rattle.wb_feed.specs.declared.channel.Message.{Message}
 use Rattle.wb_feed.specs.declared.channel.Message.TheVariants.{Take}
 use Rattle.wb_feed.specs.declared.channel.ChannelView.{ChannelView}
-use Rattle.wb_feed.specs.Channel.{sends}
-use Rattle.wb_feed.specs.Sent.{IsSent, HasArrived, OneArrives}
+use Rattle.wb_feed.specs.Inside.Channel.{sends}
+use Rattle.wb_feed.specs.Inside.Sent.{IsSent, HasArrived, OneArrives}
 
 -- the sender's pass keeps its parts, and what it received
 pub arrived_none : {A : Type 0} (gives : A → List DrawopValue → A → Type 0) (most : A → ℕ) (a : A) (was : List DrawopValue) → gives a [] a → HasArrived gives most a was a was

@@ -5,8 +5,7 @@ use Rattle.wb_names.specs.History.{HoldsName}
 use Rattle.wb_names.specs.Arrivals.{New, Again, Clash, Left}
 use Rattle.wb_board.specs.Desks.{PassValue, IsSound, IsWhole}
 use Rattle.wb_feed.specs.Accepts.{Entry, drawops, Runs}
-use Rattle.wb_feed.specs.Channel.{once_below}
-use Rattle.wb_feed.specs.Served.{is_left}
+use Rattle.wb_feed.specs.Served.{once_below, is_left}
 use Rattle.wb_feed.proofs.Prefixes.{prefix_whole}
 use Rattle.wb_feed.proofs.Numbers.{times, few_below, all_below}
 use Rattle.wb_feed.proofs.Log.{chosen, places, places_many, Gathers, sound_once, runs_leave}

@@ -1,5 +1,5 @@
 -- What accepts leave of a desk: p is the desk before them, q the desk after them.
-use Rattle.std.specs.Prelude.{◌≡◌, ℕ, ◌+◌, ◌≤◌, List, [], ◌∷◌, length, map}
+use Rattle.std.specs.Prelude.{◌≡◌, ℕ, ◌+◌, List, [], ◌∷◌, ◌++◌, length, map, slice_get, Some, All, Contains}
 use mathlib.Core.List.{IsPrefix}
 use Rattle.wb_names.specs.Values.{DrawopValue}
 use Rattle.wb_names.specs.Arrivals.{Outcome, Counts, counts_of}
@@ -10,18 +10,17 @@ pub record Keeps (p q : PassValue) : Type 0 where
   pub same : IsSamePass p q
   pub seen : IsPrefix p.seen q.seen
 
--- besides, each place is kept, and each row but at most `most`: a row is free, or it became a place
-pub record LosesAtMost (most : ℕ) (p q : PassValue) : Type 0 where
-  pub kept : Keeps p q
-  pub places : IsPrefix p.mine q.mine
-  pub none_more : q.free + length q.mine ≤ p.free + length p.mine
-  pub rows : p.free + length p.mine ≤ (q.free + length q.mine) + most
+-- at this place of the history stands one of the given drawops
+abbrev pub HasOneOf : List DrawopValue → List DrawopValue → ℕ → Type 0
+HasOneOf given history place = (d : DrawopValue) × (slice_get history place ≡ Some d) × Contains given d
 
--- the same, and this many rows are lost
-pub record Loses (lost : ℕ) (p q : PassValue) : Type 0 where
+-- besides, the desk gained places of given drawops alone, each for a row, and this many rows are lost
+pub record Loses (lost : ℕ) (given : List DrawopValue) (p q : PassValue) : Type 0 where
   pub kept : Keeps p q
-  pub places : IsPrefix p.mine q.mine
-  pub rows : p.free + length p.mine ≡ (q.free + length q.mine) + lost
+  pub gained : List ℕ
+  pub mine : q.mine ≡ p.mine ++ gained
+  pub each : All (HasOneOf given q.seen) gained
+  pub rows : p.free ≡ q.free + length gained + lost
 
 -- one accept, in which d had this outcome
 pub record Accepts (p : PassValue) (d : DrawopValue) (o : Outcome) (q : PassValue) : Type 0 where

@@ -11,8 +11,7 @@ use Rattle.wb_feed.specs.declared.fault.FeedFault.TheVariants.{Workers, Start, M
 use Rattle.wb_feed.specs.declared.channel.Message.{Message}
 use Rattle.wb_feed.specs.Accepts.{Entry, Runs, drawops, tally}
 use Rattle.wb_feed.specs.Marks.{Marks, unmarked}
-use Rattle.wb_feed.specs.Channel.{once_below}
-use Rattle.wb_feed.specs.Served.{Spot, accepted_at, entries, offered, OffersRight, times_offered}
+use Rattle.wb_feed.specs.Served.{once_below, Spot, accepted_at, entries, offered, OffersRight, times_offered}
 use Rattle.wb_feed.specs.Workers.{Work}
 
 abbrev pub counts_in : Batch → Counts

@@ -1,11 +1,9 @@
 pub mod Faults
 pub mod Accepts
-pub mod Channel
-pub mod Sent
 pub mod Served
-pub mod Feeding
 pub mod Workers
 pub mod Marks
 pub mod Batches
 pub mod Relays
 pub mod Calls
+pub mod Inside

@@ -1,16 +1,16 @@
 -- What a worker does with the messages that it receives.
-use Rattle.std.specs.Prelude.{◌≡◌, ℕ, ◌+◌, ◌≤◌, ◌==◌, Bool, true, false, cond, List, [], ◌∷◌, ◌++◌, slice_get, Some, map}
-use Rattle.std.specs.List.{flat_map}
+use Rattle.wb_board.specs.declared.reply.Reply.TheVariants as replies
+use Rattle.std.specs.Prelude.{◌≡◌, ℕ, ◌+◌, ◌≤◌, ◌==◌, Bool, true, false, cond, List, [], ◌∷◌, ◌++◌, slice_get, Some, map, nat_lt}
 use Rattle.wb_names.specs.Values.{DrawopValue}
 use Rattle.wb_names.specs.Arrivals.{Outcome, New, Again, Clash, Left}
 use Rattle.wb_board.specs.Desks.{PassValue}
-use Rattle.wb_board.specs.declared.reply.Reply.{Reply}
-use Rattle.wb_board.specs.declared.reply.Reply.TheVariants as replies
-use Rattle.wb_feed.specs.Accepts.{Accepts, Entry, LosesAtMost, Runs}
+use Rattle.wb_feed.specs.Accepts.{Entry, Runs}
 use Rattle.wb_feed.specs.declared.channel.Message.{Message}
 use Rattle.wb_feed.specs.declared.channel.Message.TheVariants.{Take, End}
-use Rattle.wb_feed.specs.declared.channel.ChannelView.{ChannelView}
-use Rattle.wb_feed.specs.Channel.{channel_view}
+
+-- 1 below n, and else 0
+abbrev pub once_below : ℕ → ℕ → ℕ
+once_below p n = cond (nat_lt p n) 1 0
 
 abbrev pub is_left : Outcome → Bool
 is_left (New i) = false
@@ -54,35 +54,8 @@ abbrev pub Rises : ℕ → List (ℕ × DrawopValue) → Type 0
 Rises low [] = Unit {0}
 Rises low (x ∷ xs) = (low ≤ x.0) × Rises (x.0 + 1) xs
 
--- what a worker notes of an outcome at a position: the reply, and nothing if the drawop was left
-abbrev pub noted : ℕ → Outcome → List (ℕ × Reply)
-noted p (New i) = (p, replies.New i) ∷ []
-noted p (Again i) = (p, replies.Again i) ∷ []
-noted p (Clash i) = (p, replies.Clash i) ∷ []
-noted p Left = []
-
--- the desk p accepted the drawop of this position and is q, and what was noted of it comes after what was noted before
-abbrev pub NotesOne : PassValue → ℕ → DrawopValue → PassValue → List (ℕ × Reply) → List (ℕ × Reply) → Type 0
-NotesOne p position d q before after = (o : Outcome) × Accepts p d o q × (after ≡ before ++ noted position o)
-
--- the replies of a log, each with its position
-abbrev pub told_of : List Spot → List (ℕ × Reply)
-told_of ss = flat_map (λ s. noted s.0 s.1.1) ss
-
 -- from the desk p to the desk q, one after another, the arrivals that were received
 pub record Serves (p : PassValue) (log : List Spot) (got : List Message) (q : PassValue) : Type 0 where
   pub runs : Runs p (entries log) q
   pub offered : offered log ≡ takes got
   pub rises : Rises 0 (takes got)
-
--- the worker took all that it received, and these are the replies to it
-pub record TookAll (p q : PassValue) (got : List Message) (told : List (ℕ × Reply)) : Type 0 where
-  pub log : List Spot
-  pub serves : Serves p log got q
-  pub tells : told ≡ told_of log
-
-pub record Served (p q : PassValue) (h : ChannelView) (told : List (ℕ × Reply)) (failed : Bool) : Type 0 where
-  pub kept : LosesAtMost 0 p q
-  pub one_part : h ≡ channel_view 1 false [] h.got
-  pub rises : Rises 0 (takes h.got)
-  pub took : failed ≡ false → TookAll p q h.got told

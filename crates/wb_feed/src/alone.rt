@@ -3,9 +3,10 @@ ghost use Rattle.std.specs.Prelude.{◌≡◌, ◌<◌, ◌^◌};
 ghost use Rattle.crossbeam_channel.specs.Claims.{view, IsSeatAt};
 ghost use Rattle.crossbeam_channel.specs.Ends.{sends_on, receives_on};
 ghost use Rattle.wb_board.specs.Desks.{IsPassOf};
+ghost use Rattle.wb_feed.specs.Inside.Serving.{received};
 ghost use Rattle.wb_feed.specs.Served.{Serves};
-ghost use Rattle.wb_feed.specs.Feeding.{IsReady, IsMerged, HasFed};
-ghost use Rattle.wb_feed.specs.Workers.{HasWorked, MayLose, ComesBack};
+ghost use Rattle.wb_feed.specs.Inside.Feeding.{IsReady, IsMerged, HasFed};
+ghost use Rattle.wb_feed.specs.Inside.Working.{HasWorked, MayLose, ComesBack};
 
 use crate::arrivals::Arrivals;
 use crate::gate::Gate;
@@ -57,7 +58,8 @@ fn work_with<'s, 'e: 's, R: Threads + Wait + Sync, S: Arrivals, G: Gate + Sync>(
     requires channel { receives_on shared.end.now ≡ sends_on feeding.old.channel }
     requires ready { IsReady 1 feeding.old }
     requires few { S.most_to_come arrivals.old < 2 ^ 32 }
-    ensures kept { MayLose 0 desk result.1 result.0 }
+    ensures kept { MayLose 0 (received (view feeding.new.pass).got) desk result.1 result.0 }
+    ensures parts { (view feeding.new.pass).parts ≡ (view feeding.old.pass).parts }
     ensures fed { HasFed S.gives S.most_to_come S.has_ended feeding.old arrivals.old
         feeding.new arrivals.new result.1 }
     ensures ok { HasWorked (Serves desk) feeding.old feeding.new result.0 result.1 }
@@ -114,7 +116,8 @@ pub(crate) fn run_one<'s, 'e: 's, R: Threads + Wait + Sync, S: Arrivals, G: Gate
     requires channel { receives_on shared.end.now ≡ sends_on feeding.old.channel }
     requires ready { IsReady 1 feeding.old }
     requires few { S.most_to_come arrivals.old < 2 ^ 32 }
-    ensures kept { MayLose 0 root.old result root.new }
+    ensures kept { MayLose 0 (received (view feeding.new.pass).got) root.old result root.new }
+    ensures parts { (view feeding.new.pass).parts ≡ (view feeding.old.pass).parts }
     ensures fed { HasFed S.gives S.most_to_come S.has_ended feeding.old arrivals.old
         feeding.new arrivals.new result }
     ensures ok { HasWorked (Serves root.old) feeding.old feeding.new root.new result }

@@ -1,16 +1,17 @@
 //! A batch: the workers take what comes, and the desk takes again what none of them accepted.
-ghost use Rattle.std.specs.Prelude.{◌≡◌, ◌+◌, ◌<◌, ◌≤◌, ◌^◌, ◌⊎◌, ◌↔◌, true, List, [], Err, length, IfOk, OnOk};
+ghost use Rattle.std.specs.Prelude.{◌≡◌, ◌+◌, ◌<◌, ◌≤◌, ◌^◌, ◌⊎◌, ◌↔◌, true, List, [], ◌∷◌, Err, length, IfOk, OnOk};
 ghost use Rattle.crossbeam_channel.specs.Claims.{view};
 ghost use Rattle.crossbeam_channel.specs.Ends.{sends_on, receives_on};
 ghost use Rattle.wb_names.specs.Values.{DrawopValue};
 ghost use Rattle.wb_names.specs.Arrivals.{Outcome};
 ghost use Rattle.wb_board.specs.Counts.{IsWorkerCount};
-ghost use Rattle.wb_board.specs.Desks.{IsPassOf, IsSound};
-ghost use Rattle.wb_feed.specs.Accepts.{Keeps, Loses, LosesAtMost, Accepts};
-ghost use Rattle.wb_feed.specs.Channel.{channel_view};
-ghost use Rattle.wb_feed.specs.Marks.{CountsOne, Files, IsPut, Settles};
-ghost use Rattle.wb_feed.specs.Feeding.{HasFed};
-ghost use Rattle.wb_feed.specs.Workers.{handed_out, MayLose};
+ghost use Rattle.wb_board.specs.Desks.{IsPassOf, IsSound, AddsNothing};
+ghost use Rattle.wb_feed.specs.Accepts.{Keeps, Loses, Accepts};
+ghost use Rattle.wb_feed.specs.Inside.Channel.{channel_view};
+ghost use Rattle.wb_feed.specs.Inside.Filing.{CountsOne, Files, IsPut, Settles};
+ghost use Rattle.wb_feed.specs.Inside.Feeding.{HasFed};
+ghost use Rattle.wb_feed.specs.Workers.{handed_out};
+ghost use Rattle.wb_feed.specs.Inside.Working.{MayLose};
 ghost use Rattle.wb_feed.specs.Batches.{Takes, IsSettled, SharesAndCounts, lost_by};
 
 use crate::arrivals::Arrivals;
@@ -64,10 +65,11 @@ const CAPACITY: usize = 64;
 /// round each accept of a worker. Answers the counts, and the drawops in the order in which they
 /// came.
 ///
-/// With a number of workers out of range nothing is taken. After `Start` nothing was taken, and
-/// each row and place is kept. After `Memory` any part of the arrivals may have been taken; one
-/// worker then loses no row. Of more, a worker's desk whose join was refused is dropped with its
-/// rows, and all others are joined back; the fault tells how many rows are lost.
+/// Whatever is answered, the desk gains places of drawops alone that the source gave. With a number
+/// of workers out of range nothing is taken. After `Start` nothing was taken, and each row and place
+/// is kept. After `Memory` any part of the arrivals may have been taken; one worker then loses no
+/// row. Of more, a worker's desk whose join was refused is dropped with its rows, and all others are
+/// joined back; the fault tells how many rows are lost.
 pub fn run_batch<R: Threads + Wait + Sync, S: Arrivals, G: Gate + Sync>(
     rt: &R,
     alloc: Global,
@@ -80,13 +82,14 @@ pub fn run_batch<R: Threads + Wait + Sync, S: Arrivals, G: Gate + Sync>(
     requires desk { IsPassOf board.now desk.old }
     ensures kept { Keeps desk.old desk.new }
     ensures sound { IsSound desk.new }
-    ensures rows { Loses (lost_by result) desk.old desk.new }
+    ensures gained { (given : List DrawopValue) × S.gives arrivals.old given arrivals.new
+        × Loses (lost_by result) given desk.old desk.new }
     ensures few_rows { lost_by result ≤ handed_out workers desk.old.free }
     ensures workers { (result ≡ Err FeedFault.Workers) ↔ ((workers ≡ 0) ⊎ (MAX_WORKERS < workers)) }
     ensures untouched { (workers ≡ 0) ⊎ (MAX_WORKERS < workers)
         → (desk.new ≡ desk.old) × (arrivals.new ≡ arrivals.old) }
     ensures started { result ≡ Err FeedFault.Start
-        → (arrivals.new ≡ arrivals.old) × Loses 0 desk.old desk.new }
+        → (arrivals.new ≡ arrivals.old) × AddsNothing desk.old desk.new }
     ensures arrived { (given : List DrawopValue) × S.gives arrivals.old given arrivals.new }
     ensures given { IfOk result (λ r. S.gives arrivals.old r.1.items arrivals.new) }
     ensures few { IfOk result
@@ -138,16 +141,17 @@ fn take_batch<R: Threads + Wait + Sync, S: Arrivals, G: Gate + Sync>(
     requires first { (view feeding.old.pass ≡ channel_view 16 true [] [])
         × (feeding.old.arrived.items ≡ []) × (feeding.old.going ≡ true) }
     requires few { S.most_to_come arrivals.old < 2 ^ 32 }
-    ensures kept { MayLose (handed_out shared.entry.workers desk.old.free) desk.old result
-        desk.new }
+    ensures kept { MayLose (handed_out shared.entry.workers desk.old.free)
+        feeding.new.arrived.items desk.old result desk.new }
     ensures fed { HasFed S.gives S.most_to_come S.has_ended feeding.old arrivals.old
         feeding.new arrivals.new result }
     ensures settled { IfOk result
         (IsSettled shared.entry.workers desk.old feeding.new.arrived.items desk.new) }
 {
     let rows = desk.rows_left() / shared.workers;
-    let told = run_all(shared, desk, rows, feeding, arrivals)?;
+    let told = run_all(shared, desk, rows, feeding, arrivals);
     feeding.learn_all();
+    let told = told?;
     let count = feeding.arrived.len();
     let Ok(filed) = file(shared.alloc, told.replies.as_slice(), count) else {
         return Err(WorkFault::Memory { lost: 0 });
@@ -195,7 +199,7 @@ fn settle(
     requires few { length arrived.now < 2 ^ 32 }
     requires filed { length filed.now ≡ length arrived.now }
     ensures ok { IfOk result (λ b. Settles desk.old filed.now arrived.now desk.new b) }
-    ensures kept { LosesAtMost 0 desk.old desk.new }
+    ensures kept { Loses 0 arrived.now desk.old desk.new }
 {
     let mut batch = Batch {
         fresh: 0,
@@ -225,7 +229,7 @@ fn take_one(
         < 2 ^ 32 }
     ensures ok { OnOk result
         ((o : Outcome) × Accepts desk.old drawop.now o desk.new × CountsOne batch.old o batch.new) }
-    ensures kept { LosesAtMost 0 desk.old desk.new }
+    ensures kept { Loses 0 (drawop.now ∷ []) desk.old desk.new }
 {
     match board.accept(desk, drawop) {
         Ok(reply) => batch.count(reply),

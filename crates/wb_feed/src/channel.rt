@@ -29,7 +29,7 @@ pub(crate) struct EachOnce;
 
 impl Protocol<Message, ChannelView> for EachOnce {
     ghost use Rattle.std.specs.Prelude.{true, []};
-    ghost use Rattle.wb_feed.specs.Channel.{channel_view, Kept};
+    ghost use Rattle.wb_feed.specs.Inside.Channel.{channel_view, Kept};
 
     ghost holds = { λ items views. Kept items views };
 
@@ -40,7 +40,7 @@ impl Protocol<Message, ChannelView> for EachOnce {
 pub(crate) struct Sends;
 
 impl Outcome<Message, ChannelView> for Sends {
-    ghost use Rattle.wb_feed.specs.Channel.{sends};
+    ghost use Rattle.wb_feed.specs.Inside.Channel.{sends};
 
     ghost then = { λ v x w. w ≡ sends v x };
 }
@@ -53,7 +53,7 @@ impl Lesson<Message, ChannelView> for Sends {
 pub(crate) struct Whole;
 
 impl Lesson<Message, ChannelView> for Whole {
-    ghost use Rattle.wb_feed.specs.Channel.{IsComplete};
+    ghost use Rattle.wb_feed.specs.Inside.Channel.{IsComplete};
 
     ghost fact = { λ v items. IsComplete v };
 }
@@ -62,7 +62,7 @@ impl Lesson<Message, ChannelView> for Whole {
 pub(crate) struct Receives;
 
 impl Outcome<Message, ChannelView> for Receives {
-    ghost use Rattle.wb_feed.specs.Channel.{receives, Follows};
+    ghost use Rattle.wb_feed.specs.Inside.Channel.{receives, Follows};
 
     ghost then = { λ v x w. (w ≡ receives v x) × Follows v.got x };
 }
@@ -76,7 +76,7 @@ pub(crate) struct Cut;
 
 impl Split<ChannelView> for Cut {
     ghost use Rattle.std.specs.Prelude.{◌-◌, false, []};
-    ghost use Rattle.wb_feed.specs.Channel.{channel_view};
+    ghost use Rattle.wb_feed.specs.Inside.Channel.{channel_view};
 
     ghost left = { λ v. channel_view (v.parts - 1) v.sends v.sent v.got };
 
@@ -85,7 +85,7 @@ impl Split<ChannelView> for Cut {
 
 impl Join<ChannelView> for Cut {
     ghost use Rattle.std.specs.Prelude.{◌+◌, ◌++◌, false, []};
-    ghost use Rattle.wb_feed.specs.Channel.{channel_view};
+    ghost use Rattle.wb_feed.specs.Inside.Channel.{channel_view};
 
     ghost both = { λ v w. channel_view (v.parts + w.parts) v.sends v.sent (v.got ++ w.got) };
 

@@ -2,8 +2,8 @@
 ghost use Rattle.std.specs.Prelude.{◌≡◌, ◌+◌, ◌-◌, ◌<◌, ◌^◌, true, false, [], OnOk, length};
 ghost use Rattle.crossbeam_channel.specs.Claims.{view, IsSeatAt};
 ghost use Rattle.crossbeam_channel.specs.Ends.{sends_on};
-ghost use Rattle.wb_feed.specs.Channel.{channel_view, sends, IsComplete};
-ghost use Rattle.wb_feed.specs.Sent.{IsNext, IsSent, NextArrives, HasArrived, Stays};
+ghost use Rattle.wb_feed.specs.Inside.Channel.{channel_view, sends, IsComplete};
+ghost use Rattle.wb_feed.specs.Inside.Sent.{IsNext, IsSent, NextArrives, HasArrived, Stays};
 
 use crate::arrivals::Arrivals;
 use crate::channel::{ChannelPass, ChannelSender, Cut, Message, Sends, Whole};
@@ -24,7 +24,7 @@ pub(crate) struct Feeding {
 }
 
 impl Feeding {
-    ghost use Rattle.wb_feed.specs.Feeding.{IsWith, IsMerged};
+    ghost use Rattle.wb_feed.specs.Inside.Feeding.{IsWith, IsMerged};
 
     /// Nothing came yet. It takes no memory.
     pub(crate) fn new(alloc: Global, channel: ChannelSender, pass: ChannelPass) -> Feeding

@@ -1,12 +1,12 @@
 //! What a worker does: it accepts what the channel gives, until its end message.
-ghost use Rattle.std.specs.Prelude.{◌≡◌, ◌<◌, ◌⊎◌, ◌++◌, false, [], OnOk, IfSome, IfNone};
+ghost use Rattle.std.specs.Prelude.{◌≡◌, ◌<◌, ◌⊎◌, ◌++◌, ◌∷◌, false, [], OnOk, IfSome, IfNone};
 ghost use Rattle.crossbeam_channel.specs.Claims.{view, IsSeatAt};
 ghost use Rattle.crossbeam_channel.specs.Ends.{receives_on};
 ghost use Rattle.wb_board.specs.Desks.{IsPassOf};
 ghost use Rattle.wb_feed.specs.declared.channel.Message.TheVariants.{Take, End};
-ghost use Rattle.wb_feed.specs.Accepts.{LosesAtMost};
-ghost use Rattle.wb_feed.specs.Channel.{channel_view, receives, Follows};
-ghost use Rattle.wb_feed.specs.Served.{NotesOne, Served};
+ghost use Rattle.wb_feed.specs.Accepts.{Loses};
+ghost use Rattle.wb_feed.specs.Inside.Channel.{channel_view, receives, Follows};
+ghost use Rattle.wb_feed.specs.Inside.Serving.{NotesOne, Served};
 
 use crate::channel::{ChannelPass, ChannelReceiver, Message, Receives};
 use crate::gate::Gate;
@@ -68,7 +68,7 @@ fn accept_one(
     requires desk { IsPassOf board.now desk.old }
     ensures ok { OnOk result (NotesOne desk.old position drawop.now desk.new
         told.old.replies.items told.new.replies.items) }
-    ensures kept { LosesAtMost 0 desk.old desk.new }
+    ensures kept { Loses 0 (drawop.now ∷ []) desk.old desk.new }
 {
     told.replies.reserve(1)?;
     match board.accept(desk, drawop) {
@@ -115,7 +115,7 @@ fn take_turn<R, G: Gate>(
     nth: u32,
 ) -> bool
     requires desk { IsPassOf shared.board.now desk.old }
-    ensures kept { LosesAtMost 0 desk.old desk.new }
+    ensures kept { Loses 0 (arrival.1 ∷ []) desk.old desk.new }
     ensures took { result ≡ false → (failed ≡ false) × NotesOne desk.old arrival.0 arrival.1
         desk.new told.old.replies.items told.new.replies.items }
 {

@@ -6,9 +6,11 @@ ghost use Rattle.crossbeam_channel.specs.Ends.{sends_on, receives_on};
 ghost use Rattle.wb_board.specs.Counts.{IsWorkerCount};
 ghost use Rattle.wb_board.specs.declared.board.TheConstants.{MAX_WORKERS};
 ghost use Rattle.wb_board.specs.Desks.{IsPassOf};
-ghost use Rattle.wb_feed.specs.Feeding.{IsReady, IsMerged, HasFed};
-ghost use Rattle.wb_feed.specs.Sent.{Stays};
-ghost use Rattle.wb_feed.specs.Workers.{Workers, Work, HasWorked, MayLose, handed_out, lost_in, TakesBack};
+ghost use Rattle.wb_feed.specs.Inside.Feeding.{IsReady, IsMerged, HasFed};
+ghost use Rattle.wb_feed.specs.Inside.Sent.{Stays};
+ghost use Rattle.wb_feed.specs.Inside.Serving.{received};
+ghost use Rattle.wb_feed.specs.Workers.{Workers, Work, handed_out};
+ghost use Rattle.wb_feed.specs.Inside.Working.{HasWorked, MayLose, lost_in, TakesBack};
 
 use crate::alone::run_one;
 use crate::arrivals::Arrivals;
@@ -53,7 +55,7 @@ pub(crate) struct WorkerServes<'a> {
 impl<'a> Promise<GivenBack> for WorkerServes<'a> {
     ghost use Rattle.crossbeam_channel.specs.Claims.{view, IsSeatAt};
     ghost use Rattle.crossbeam_channel.specs.Ends.{receives_on};
-    ghost use Rattle.wb_feed.specs.Served.{Served};
+    ghost use Rattle.wb_feed.specs.Inside.Serving.{Served};
 
     ghost kept_by = { λ p r. IsSeatAt (receives_on p.end.now) r.pass ×
         Served p.desk.value r.desk (view r.pass) r.told.replies.items r.failed };
@@ -136,7 +138,9 @@ fn run_several<'s, 'e: 's, R: Threads + Wait + Sync, S: Arrivals, G: Gate + Sync
     requires channel { receives_on shared.end.now ≡ sends_on feeding.old.channel }
     requires ready { IsReady left feeding.old }
     requires few { S.most_to_come arrivals.old < 2 ^ 32 }
-    ensures kept { MayLose (rows * left) root.old result root.new }
+    ensures kept { MayLose (rows * left) (received (view feeding.new.pass).got) root.old result
+        root.new }
+    ensures parts { (view feeding.new.pass).parts ≡ (view feeding.old.pass).parts }
     ensures fed { HasFed S.gives S.most_to_come S.has_ended feeding.old arrivals.old
         feeding.new arrivals.new result }
     ensures ok { HasWorked (Workers rows left root.old) feeding.old feeding.new root.new result }
@@ -221,8 +225,9 @@ fn run_some<'s, 'e: 's, R: Threads + Wait + Sync, S: Arrivals, G: Gate + Sync>(
     requires channel { receives_on shared.end.now ≡ sends_on feeding.old.channel }
     requires ready { IsReady shared.workers feeding.old }
     requires few { S.most_to_come arrivals.old < 2 ^ 32 }
-    ensures kept { MayLose (handed_out shared.entry.workers root.old.free) root.old result
-        root.new }
+    ensures kept { MayLose (handed_out shared.entry.workers root.old.free)
+        (received (view feeding.new.pass).got) root.old result root.new }
+    ensures parts { (view feeding.new.pass).parts ≡ (view feeding.old.pass).parts }
     ensures fed { HasFed S.gives S.most_to_come S.has_ended feeding.old arrivals.old
         feeding.new arrivals.new result }
     ensures ok { HasWorked
@@ -249,8 +254,9 @@ pub(crate) fn run_all<R: Threads + Wait + Sync, S: Arrivals, G: Gate + Sync>(
     requires channel { receives_on shared.end.now ≡ sends_on feeding.old.channel }
     requires ready { IsReady shared.workers feeding.old }
     requires few { S.most_to_come arrivals.old < 2 ^ 32 }
-    ensures kept { MayLose (handed_out shared.entry.workers root.old.free) root.old result
-        root.new }
+    ensures kept { MayLose (handed_out shared.entry.workers root.old.free)
+        (received (view feeding.new.pass).got) root.old result root.new }
+    ensures parts { (view feeding.new.pass).parts ≡ (view feeding.old.pass).parts }
     ensures fed { HasFed S.gives S.most_to_come S.has_ended feeding.old arrivals.old
         feeding.new arrivals.new result }
     ensures ok { HasWorked
@@ -268,7 +274,8 @@ pub(crate) fn run_all<R: Threads + Wait + Sync, S: Arrivals, G: Gate + Sync>(
                 × (result.1.ghost_name ≡ feeding.entry.ghost_name)
                 × (result.2.ghost_name ≡ arrivals.entry.ghost_name) }
             ensures kept { MayLose (handed_out shared.entry.workers root.entry.now.free)
-                root.entry.now result.3 result.0.now }
+                (received (view result.1.now.pass).got) root.entry.now result.3 result.0.now }
+            ensures parts { (view result.1.now.pass).parts ≡ (view feeding.entry.now.pass).parts }
             ensures fed { HasFed S.gives S.most_to_come S.has_ended feeding.entry.now
                 arrivals.entry.now result.1.now result.2.now result.3 }
             ensures ok { HasWorked (Work shared.entry.workers root.entry.now) feeding.entry.now

@@ -2,7 +2,7 @@
 //! stands here for its clause.
 
 ghost use Rattle.std.specs.Prelude.{◌≡◌, ◌^◌};
-ghost use Rattle.wb_judge.specs.declared.limits.TheConstants.{AHEAD_KNOWN, AHEAD_STRANGER, ASKED_AHEAD, ASKED_PAUSE, FIRM_TIME, FRESH, LEAST_SHARE, MOST_KNOWN, MOST_OTHERS, MOST_OWN, MOST_SHARING, OF_ORIGIN, PATIENCE, REPAIRS_AHEAD, REPAIRS_OF_ONE, REPAIR_PAUSE, RESERVE, SILENCE, STRANGERS, STRANGE_PAGES, STRANGE_ROWS, TIME_LIMIT};
+ghost use Rattle.wb_judge.specs.declared.limits.TheConstants.{AHEAD_KNOWN, AHEAD_STRANGER, ASKED_AHEAD, ASKED_PAUSE, DRIFT, FIRM_TIME, FRESH, LEAST_SHARE, MOST_KNOWN, MOST_OTHERS, MOST_OWN, MOST_SHARING, OF_ORIGIN, PATIENCE, REPAIRS_AHEAD, REPAIRS_OF_ONE, REPAIR_PAUSE, RESERVE, SILENCE, STRANGERS, STRANGE_PAGES, STRANGE_ROWS, TIME_LIMIT};
 ghost use Rattle.wb_judge.specs.Members.{KnownAgain, KnownBeside, MembersAreHeard, NumbersBeside, RequestsArePaidFor, RequestsHaveRoom};
 ghost use Rattle.wb_judge.specs.Laws.{AMemberIsNotDropped, FewAreTaken, NamesCountOnce, NamesTakeTurns, NobodyHushesFirmNames, NumbersStay, OnlyAnswersMakeKnown, RepairsAreFew, RepairsAreShared, ReplayIsNoTwin, SharesStay, StateIsBounded, StaysStrange, StrangersAreFew, StrangersHaveAShare, StrangersHushNobody, TurnsAreFew, VouchesForNobody};
 
@@ -95,11 +95,12 @@ pub fn limits()
 {}
 
 /// The other numbers of the judgement: in microseconds how long an echo is fresh, and an origin or
-/// a number may be silent; the parts of a board, pages and sources for strangers; how far ahead a
+/// a number may be silent; by one part in how many clocks may differ; the parts of a board, pages and sources for strangers; how far ahead a
 /// time may be; how far ahead repairs for members and questions of strangers are paid for, and what
 /// one costs; and how long a turn of a firm name is.
 pub fn numbers()
     ensures silent { (FRESH ≡ 256000000) × (SILENCE ≡ 600000000) × (PATIENCE ≡ 192000000) }
+    ensures clocks { DRIFT ≡ 4096 }
     ensures shares { (STRANGERS ≡ 16) × (OF_ORIGIN ≡ 128) × (LEAST_SHARE ≡ 16) × (RESERVE ≡ 32) }
     ensures wide { (STRANGE_PAGES ≡ 16) × (STRANGE_ROWS ≡ 256) }
     ensures ahead { (AHEAD_KNOWN ≡ 86400000000) × (AHEAD_STRANGER ≡ 60000000) }

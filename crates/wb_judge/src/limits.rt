@@ -7,6 +7,9 @@ pub const MOST_OWN: usize = 256;
 /// An echo of a moment that is older answers nobody.
 pub const FRESH: u64 = 256_000_000;
 
+/// Of two clocks one may go faster than the other by one part in this many.
+pub const DRIFT: u64 = 4_096;
+
 /// An origin that answered us is known until it was silent for longer than this.
 pub const SILENCE: u64 = 600_000_000;
 

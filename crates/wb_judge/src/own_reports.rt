@@ -4,7 +4,7 @@ ghost use Rattle.std.specs.Prelude.{◌≡◌, ◌&&◌, [], IfOk, None, Some, n
 ghost use Rattle.std.specs.List.{list_any};
 ghost use Rattle.wb_judge.specs.Answers.{answers, reported};
 
-use crate::limits::{FRESH, MOST_OWN};
+use crate::limits::{DRIFT, FRESH, MOST_OWN};
 use std::alloc::{AllocError, Global};
 use std::marker::Model;
 use wb_names::Echo;
@@ -60,7 +60,7 @@ impl OwnReports {
             None => false,
             Some(echo) => {
                 let ago = now.saturating_sub(echo.sent);
-                self.has(echo.sent) && ago <= FRESH && echo.held <= ago
+                self.has(echo.sent) && ago <= FRESH && echo.held <= ago + ago / DRIFT
             }
         }
     }

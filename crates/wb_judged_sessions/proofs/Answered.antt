@@ -10,7 +10,7 @@ use Rattle.wb_names.specs.declared.echo.Echo.{Echo}
 use Rattle.wb_codec.specs.declared.datagram.Datagram.{Datagram}
 use Rattle.wb_codec.specs.declared.datagram.Datagram.TheVariants.{Session}
 use Rattle.wb_keeper.specs.declared.keeper.Heard.{Heard}
-use Rattle.wb_judge.specs.Answers.{answers}
+use Rattle.wb_judge.specs.Answers.{answers, by_their_clock}
 use Rattle.wb_judge.specs.Judge.{Judge}
 use Rattle.wb_judge.specs.Laws.{is_answer}
 use Rattle.wb_judge.specs.Reports.{echo_to}
@@ -35,12 +35,12 @@ pub answers_in_time : (heard : Heard) (moment now : ℕ) (j : Judge) (e : Echo) 
 unfolding answers
 answers_in_time heard moment now j e t sent held =
     and_from (list_any (nat_eq e.sent) j.own) _ (ap (λ (n : ℕ). list_any (nat_eq n) j.own) sent ∙ list_any-from_Contains nat_eq_equiv heard.sent j.own t.own)
-    (and_from (nat_le (now - e.sent) FRESH) _ (le-leb (now - e.sent) FRESH (fresh sent t.fresh)) (le-leb e.held (now - e.sent) (shorter sent held t.clocks))) where
+    (and_from (nat_le (now - e.sent) FRESH) _ (le-leb (now - e.sent) FRESH (fresh sent t.fresh)) (le-leb e.held _ (shorter sent held t.clocks))) where
       fresh : e.sent ≡ heard.sent → now ≤ heard.sent + FRESH → now - e.sent ≤ FRESH
       fresh same le = omega (arith, same, le)
 
-      shorter : e.sent ≡ heard.sent → e.held ≡ moment - heard.at → moment + heard.sent ≤ now + heard.at → e.held ≤ now - e.sent
-      shorter same is le = omega (arith, same, is, le)
+      shorter : e.sent ≡ heard.sent → e.held ≡ moment - heard.at → moment - heard.at ≤ by_their_clock (now - heard.sent) → e.held ≤ by_their_clock (now - e.sent)
+      shorter same is le = subst (λ (n : ℕ). n ≤ by_their_clock (now - e.sent)) (sym is) (subst (λ (n : ℕ). moment - heard.at ≤ by_their_clock (now - n)) (sym same) le)
 
 -- ---- a call
 

@@ -39,7 +39,7 @@ use Rattle.wb_judging.specs.Performing.{after_judged}
 use Rattle.wb_judging.proofs.MembersIn.{each_kind_is_handed_in}
 use Rattle.wb_judged_sessions.specs.Answering.{AnswersAreHandedIn, AnswersMakeKnown, HasRoomFor, IsLeftKnown, KnownAreHandedIn, KnownGoOn, heard_at, heard_by_call, heard_by_line, is_report_of}
 use Rattle.wb_judged_sessions.specs.Knowing.{IsKnownSince, is_heard_since, is_known_since}
-use Rattle.wb_judged_sessions.specs.Sessions.{JudgedCall, Starts, Takes, after_call, judged_at}
+use Rattle.wb_judged_sessions.specs.Sessions.{JudgedCall, Starts, Takes, Tunes, after_call, judged_at}
 use Rattle.wb_judged_sessions.proofs.Numbers.{hear_others, of_entry, other_new, said_now}
 use Rattle.wb_judged_sessions.proofs.Origins.{from_there}
 use Rattle.wb_judged_sessions.proofs.Records.{number_at}
@@ -299,6 +299,7 @@ known_go_on numbers o number place since (e ∷ newer) older another m left = by
   goes : (call : JudgedCall) → IsLeftKnown o number before call h → IsKnownSince o number before h.judge → IsKnownSince o number (heard_by_call o number call h before) (after_call call h).judge
   goes (Starts start given) l rest = absurd l
   goes (Takes line) l rest = line_goes_on o number before line h other_me l rest
+  goes (Tunes constants) l rest = rest
 
   by : (b : Bool) → nat_eq e.place place ≡ b → IsKnownSince o number before h.judge
       → IsKnownSince o number (cond b (heard_by_call o number e.call h before) before) (let k : Judged = cond b (after_call e.call h) h in k.judge)

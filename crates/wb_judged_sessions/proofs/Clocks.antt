@@ -18,7 +18,7 @@ use Rattle.wb_judging.specs.declared.record.RecordLine.{RecordLine}
 use Rattle.wb_laws_kept.specs.Openings.{opened_host}
 use Rattle.wb_kept_progress.proofs.Moments.{moment_of as kept_moment, told_itself}
 use Rattle.wb_kept_progress.proofs.StillCalls.{IsTuning, call_now}
-use Rattle.wb_judged_sessions.specs.Sessions.{JudgedCall, JudgedCallAt, Starts, Takes, after_call, judged_at, started}
+use Rattle.wb_judged_sessions.specs.Sessions.{JudgedCall, JudgedCallAt, Starts, Takes, Tunes, after_call, judged_at, started}
 use Rattle.wb_judged_sessions.specs.Terms.{AreLinesTaken, AreTaken, IsLineTaken, IsTaken}
 use Rattle.wb_judged_sessions.specs.Timely.{AreFittingSince, AreInOrder, IsFittingSince, called_at}
 use Rattle.wb_judged_sessions.proofs.Records.{number_at}
@@ -84,6 +84,7 @@ module _ (numbers : ℕ → ℕ) (terms : Terms) where
     by before true here (Takes line) fits =
         let there : IsNowAt terms e.time i (moment_of line h) = subst (λ (p : ℕ). IsNowAt terms e.time i (moment_of line (judged_at numbers older p))) (eqb-true e.place i here) fits.0 in
         line_present line h (terms.lag i) e.time there.not_ahead (before fits.1)
+    by before true here (Tunes constants) fits = before fits.1
 
   pub due_at : (calls : List JudgedCallAt) (i : ℕ) → AreFittingSince terms numbers i calls → AreTaken numbers calls → IsDueSoon (judged_at numbers calls i).kept
   due_at [] i fitting taken = absurd fitting
@@ -100,3 +101,4 @@ module _ (numbers : ℕ → ℕ) (terms : Terms) where
         record_due given first lines.1 (first_soon (present first.kept.host) (word_of (started_words start.opening.seed)))
     by before true here (Takes line) fits now =
         line_due line h (own_at numbers older i) (subst (λ (p : ℕ). IsLineTaken line (judged_at numbers older p)) (eqb-true e.place i here) now) (before fits.1)
+    by before true here (Tunes constants) fits now = before fits.1

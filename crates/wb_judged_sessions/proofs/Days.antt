@@ -36,12 +36,12 @@ use Rattle.wb_judging.proofs.Histories.{fresh_is_new}
 use Rattle.wb_laws_sessions.proofs.Acts.{held_after}
 use Rattle.wb_laws_sessions.proofs.Room.{with_room}
 use Rattle.wb_laws_sessions.proofs.Sending.{one_of}
-use Rattle.wb_laws_sessions.specs.Drawn.{new_where}
+use Rattle.wb_laws_sessions.specs.Members.{new_where}
 use Rattle.wb_kept_progress.proofs.Onward.{call_later}
 use Rattle.wb_kept_progress.proofs.Performed.{adds_begin}
 use Rattle.wb_kept_progress.proofs.StillCalls.{came_now, no_ticks_stand}
 use Rattle.wb_judged_sessions.specs.Days.{HeldIsNear, NeverADayBack, OursAreInOrder, OursLieAbove, latest_after, latest_before, day_of, day_of_record, latest_at, recalled_by, tells_day}
-use Rattle.wb_judged_sessions.specs.Sessions.{JudgedCall, JudgedCallAt, Start, Starts, Takes, after_call, drawn_by, drawn_by_line, judged_at}
+use Rattle.wb_judged_sessions.specs.Sessions.{JudgedCall, JudgedCallAt, Start, Starts, Takes, Tunes, after_call, drawn_by, drawn_by_line, judged_at}
 use Rattle.wb_judged_sessions.specs.Terms.{AreTaken, IsItsFile, IsLineTaken, IsTaken, KeepFiles, file_at}
 use Rattle.wb_judged_sessions.proofs.Above.{IsWithin, drawn_after, drawn_at_most, later_within, let_in, within_more}
 use Rattle.wb_judged_sessions.proofs.Drawn.{gained_added, held_added, its}
@@ -199,6 +199,7 @@ module _ (numbers : ℕ → ℕ) (older : List JudgedCallAt) (i : ℕ) where
   call_within (Starts start given) keeps each = start_within start given (keeps start given refl) each (file_at numbers older i) refl
   call_within (Takes line) keeps each =
       line_within (next line) line h (omega arith) (later_within latest (next line) (held_by h) (omega arith) each) (omega arith)
+  call_within (Tunes constants) keeps each = later_within latest (max latest (day_of h)) (held_by h) (omega arith) each
 
 module _ (numbers : ℕ → ℕ) where
   all_within : (calls : List JudgedCallAt) (i : ℕ) → KeepFiles numbers calls → IsWithin (latest_at numbers calls i) (held_by (judged_at numbers calls i))
@@ -241,6 +242,7 @@ call_soon (Takes (Passed now news)) file h latest own taken told soon = by (is_d
   by true is = told_soon (max latest 0) (after_judged line h) (told is)
   by false is = still_soon latest line h own taken is soon
 call_soon (Takes (UserDrew now page op)) file h latest own taken told soon = still_soon latest (UserDrew now page op) h own taken refl soon
+call_soon (Tunes constants) file h latest own taken told soon = told_soon latest h soon
 
 -- ---- how many drawops a board holds
 
@@ -252,6 +254,7 @@ module _ (numbers : ℕ → ℕ) where
   call_small : (call : JudgedCall) (h other : Judged) → IsTaken call other → cells_of h ≤ MAX_CELLS → cells_of (after_call call h) ≤ MAX_CELLS
   call_small (Starts start given) h other taken small = let few = taken.0.small in let is = start_cells h.kept.host.is.number start given in omega (arith, few, is)
   call_small (Takes line) h other taken small = let is = cells_line line h in omega (arith, small, is)
+  call_small (Tunes constants) h other taken small = small
 
   small_at : (calls : List JudgedCallAt) (i : ℕ) → AreTaken numbers calls → cells_of (judged_at numbers calls i) ≤ MAX_CELLS
   small_at [] i taken = omega arith
@@ -311,6 +314,7 @@ module _ (latest : ℕ) (h : Judged) (own : IsOwn h) (ours d : DrawopValue) (eac
   call_above (Takes (CameFrom now o v)) taken day c = absurd (Contains-none ours c)
   call_above (Takes (Passed now news)) taken day c = absurd (Contains-none ours c)
   call_above (Takes (Held line)) taken day c = absurd (Contains-none ours c)
+  call_above (Tunes constants) taken day c = absurd (Contains-none ours c)
 
 pub ours_lie_above : OursLieAbove
 ours_lie_above numbers older e ours d keeps day c held on =

@@ -29,10 +29,11 @@ use Rattle.wb_laws_kept.specs.Sessions.{Begins, CallAt, kept_at, steps_of}
 use Rattle.wb_laws_kept.proofs.Honest.{came_given, moments_given, of_policy, ticks_given, timed_given}
 use Rattle.wb_laws_kept.proofs.Replaying.{lines_stay, none}
 use Rattle.wb_laws_kept.proofs.Steps.{kept_is_session}
-use Rattle.wb_laws_sessions.specs.Drawn.{drawn_at as drawn_by_steps, drawn_by as drawn_in_deed, new_where}
-use Rattle.wb_laws_sessions.specs.Sessions.{Does, Opens, Step, host_at, steps_then}
+use Rattle.wb_laws_sessions.specs.Drawn.{drawn_at as drawn_by_steps}
+use Rattle.wb_laws_sessions.specs.Members.{drawn_by as drawn_in_deed, new_where, Does, Opens}
+use Rattle.wb_laws_sessions.specs.Sessions.{Step, host_at, steps_then}
 use Rattle.wb_laws_sessions.proofs.Honest.{IsGiven, given_draws_none}
-use Rattle.wb_judged_sessions.specs.Sessions.{DrawsAsKept, JudgedCall, JudgedCallAt, Start, Starts, Takes, drawn_at, drawn_by, judged_at, kept_calls, kept_then, lines_then, plain_line, started}
+use Rattle.wb_judged_sessions.specs.Sessions.{DrawsAsKept, JudgedCall, JudgedCallAt, Start, Starts, Takes, Tunes, drawn_at, drawn_by, judged_at, kept_calls, kept_then, lines_then, plain_line, started}
 use Rattle.wb_judged_sessions.proofs.Kept.{at, judged_is_kept}
 
 -- ---- lines that draw nothing
@@ -49,7 +50,7 @@ module _ (numbers : ℕ → ℕ) (time place : ℕ) (comes : DrawopValue → Typ
       → drawn_by_steps numbers (steps_then time place (map Does lines) older) i ≡ drawn_by_steps numbers older i
   given_draws [] older i each = refl
   given_draws (line ∷ lines) older i each =
-      given_draws lines (record { time = time; place = place; deed = Does line } ∷ older) i each.1
+      given_draws lines (record { time = time; place = place; event = Does line } ∷ older) i each.1
       ∙ if_none (nat_eq place i) (drawn_in_deed (Does line) (host_at numbers older i)) (drawn_by_steps numbers older i) (given_draws_none comes line (host_at numbers older i) each.0)
 
 -- ---- lines of self-managing members that draw nothing
@@ -104,7 +105,7 @@ module _ (numbers : ℕ → ℕ) (time place : ℕ) where
       → drawn_by_steps numbers (steps_of numbers (record { time = time; place = place; call = Begins start.opening [] } ∷ older)) i ≡ drawn_by_steps numbers (steps_of numbers older) i
   start_draws start older i =
       let o = start.opening in
-      let opening : Step = record { time = time; place = place; deed = Opens o.constants o.cells o.seed } in
+      let opening : Step = record { time = time; place = place; event = Opens o.constants o.cells o.seed } in
       given_draws numbers time place any (ticks_at o.moments ++ []) (opening ∷ steps_of numbers older) i (each_both (IsGiven any) (ticks_at o.moments) [] (moments_given any o.moments) tt)
       ∙ if_none (nat_eq place i) [] (drawn_by_steps numbers (steps_of numbers older) i) refl
 
@@ -143,8 +144,8 @@ module _ (now : ℕ) (page : PageId) (told : ℕ) (op : Op) (k : Keeping) where
     added_draws : drawn_by_steps numbers (steps_then time place (map Does (adds now page told op (sees k.host) k.policy).lines) older) i
         ≡ cond (nat_eq place i) (gained (Added now page told op) k ++ before) before
     added_draws =
-        let tick : Step = record { time = time; place = place; deed = Does (Calls (calls.Tick now)) } in
-        let says : Step = record { time = time; place = place; deed = Does (Says (Draw its)) } in
+        let tick : Step = record { time = time; place = place; event = Does (Calls (calls.Tick now)) } in
+        let says : Step = record { time = time; place = place; event = Does (Says (Draw its)) } in
         given_draws numbers time place any more (says ∷ (tick ∷ older)) i (more_given any) ∙ by (nat_eq place i) refl where
           by : (b : Bool) → nat_eq place i ≡ b
               → cond b (new_where its (becomes its (cond b (ticked now (host_at numbers older i)) (host_at numbers older i))) ++ cond b before before) (cond b before before)
@@ -183,6 +184,7 @@ module _ (numbers : ℕ → ℕ) (time place : ℕ) (h : Judged) (older : List C
       ∙ start_draws numbers time place start older i
       ∙ sym (if_none (nat_eq place i) [] drawn refl)
   call_draws (Takes line) = line_draws line
+  call_draws (Tunes constants) = nothing (Tuned constants) tt
 
 module _ (numbers : ℕ → ℕ) where
   one_call : (e : JudgedCallAt) (older : List JudgedCallAt) (i : ℕ) → drawn_at numbers older i ≡ drawn_by_steps numbers (steps_of numbers (kept_calls numbers older)) i

@@ -37,7 +37,7 @@ use Rattle.wb_judging.proofs.Numbers.{me_judging}
 use Rattle.wb_kept_progress.proofs.Counted.{echoes_listed}
 use Rattle.wb_kept_progress.proofs.FirstLines.{lines_of_call}
 use Rattle.wb_judged_sessions.specs.Answering.{LastTakenIsEchoed, last_taken, taken_by}
-use Rattle.wb_judged_sessions.specs.Sessions.{JudgedCall, JudgedCallAt, Starts, Takes, after_call, judged_at, started}
+use Rattle.wb_judged_sessions.specs.Sessions.{JudgedCall, JudgedCallAt, Starts, Takes, Tunes, after_call, judged_at, started}
 use Rattle.wb_judged_sessions.specs.Terms.{AreTaken, IsTaken}
 use Rattle.wb_judged_sessions.proofs.Records.{number_at}
 use Rattle.wb_judged_sessions.proofs.Sent.{echo_mine}
@@ -88,6 +88,7 @@ module _ (number : ℕ) where
       given_same given (started h.kept.host.is.number start)
       ∙ ticks_same start.opening.moments (opened_with start.opening.constants h.kept.host.is.number start.opening.cells start.opening.seed)
   call_newest (Takes line) h another = (call_tells number (handed line h) h.kept another (timed_line line h).0).newest_is
+  call_newest (Tunes constants) h another = refl
 
   pub last_is : (numbers : ℕ → ℕ) (place : ℕ) (calls : List JudgedCallAt) → nat_eq number (numbers place) ≡ false → newest_of number (judged_at numbers calls place).kept.host ≡ last_taken numbers number place calls
   last_is numbers place [] another = refl

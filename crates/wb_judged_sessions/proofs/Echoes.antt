@@ -33,7 +33,7 @@ use Rattle.wb_keeping.proofs.Performed.{after_both}
 use Rattle.wb_judging.specs.Echoing.{echoing, placed, with_echo}
 use Rattle.wb_kept_progress.proofs.Counted.{echoes_listed}
 use Rattle.wb_kept_progress.proofs.Lines.{lines_of}
-use Rattle.wb_judged_sessions.specs.Sessions.{plain}
+use Rattle.wb_laws_machines.specs.Maps.{plain}
 use Rattle.wb_judged_sessions.proofs.Plain.{of_others}
 use Rattle.wb_judged_sessions.proofs.SaidOnly.{SaysOnly, lines_send, want_says}
 

@@ -22,10 +22,10 @@ use Rattle.wb_judging.specs.declared.call.Call.TheVariants.{CameFrom, Held, Pass
 use Rattle.wb_judging.specs.Laws.{drawops_of}
 use Rattle.wb_judging.specs.Performing.{after_kept_line, sent_by_kept_line}
 use Rattle.wb_judging.specs.declared.record.RecordLine.{RecordLine}
-use Rattle.wb_laws_sessions.specs.Sessions.{AreApart}
+use Rattle.wb_laws_machines.specs.Honest.{AreApart}
 use Rattle.wb_laws_sessions.proofs.Sending.{one_of}
 use Rattle.wb_judged_sessions.specs.Examples.{IsShared, again, at, deletes, drawing, drawn, both_started, file, heard, numbers, one_started, page, somewhere, start}
-use Rattle.wb_judged_sessions.specs.Sessions.{JudgedCall, JudgedCallAt, Start, Starts, Takes, WasHeld, drawn_at, judged_at}
+use Rattle.wb_judged_sessions.specs.Sessions.{JudgedCall, JudgedCallAt, Start, Starts, Takes, Tunes, WasHeld, drawn_at, judged_at}
 use Rattle.wb_judged_sessions.specs.Terms.{AreTaken, DrawopsWereHeld, IsItsFile, KeepFiles, KnowTheirOwn, KnowsItsOwn, brought_by, file_at}
 use Rattle.wb_judged_sessions.proofs.Meeting.{is_opening}
 
@@ -119,6 +119,7 @@ module _ (older : List JudgedCallAt) (place : ℕ) where
 
   abbrev Knows : JudgedCall → Type 0
   Knows (Takes line) = KnowsAt line
+  Knows (Tunes constants) = Unit {0}
   Knows (Starts start given) = Unit {0}
 
   knows_by : (call : JudgedCall) → Knows call → (now : ℕ) (on : PageId) (op : Op) → call ≡ Takes (UserDrew now on op) → KnowsItsOwn numbers older place on
@@ -127,6 +128,7 @@ module _ (older : List JudgedCallAt) (place : ℕ) where
   abbrev pub HasIts : JudgedCall → Type 0
   HasIts (Starts start given) = IsItsFile numbers older place start given
   HasIts (Takes line) = Unit {0}
+  HasIts (Tunes constants) = Unit {0}
 
   pub its_by : (call : JudgedCall) → HasIts call → (start : Start) (given : List RecordLine) → call ≡ Starts start given → IsItsFile numbers older place start given
   its_by call its start given e = subst HasIts e its

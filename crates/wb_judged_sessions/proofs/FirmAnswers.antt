@@ -32,7 +32,7 @@ use Rattle.wb_member.specs.Lines.{IsOfPolicy}
 use Rattle.wb_member.specs.Opened.{Opened, accepted, due_count, events, has_room_for, heard, present, word_at}
 use Rattle.wb_member.specs.Random.{words_of}
 use Rattle.wb_member.specs.declared.calls.Call.TheVariants.{Tick, Hear, Tune}
-use Rattle.wb_laws_sessions.proofs.Names.{at_most_highest}
+use Rattle.wb_laws_machines.proofs.Names.{at_most_highest}
 use Rattle.wb_laws_sessions.proofs.Sending.{one_of}
 use Rattle.wb_keeping.specs.Kept.{Arrives, Calls, Line, Says, drawing, ends_full, hears, timed}
 use Rattle.wb_keeping.specs.Laws.{Added, Came, KeptLine, Ticked, doing_of}

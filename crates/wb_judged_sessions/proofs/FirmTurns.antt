@@ -12,7 +12,7 @@ use Rattle.wb_judging.specs.declared.call.Call.TheVariants.{CameFrom, Held, Pass
 use Rattle.wb_codec.specs.declared.datagram.Datagram.{Datagram}
 use Rattle.wb_judge.specs.declared.origin.Origin.{Origin}
 use Rattle.wb_judged_sessions.specs.Laws.{HasNotStarted}
-use Rattle.wb_judged_sessions.specs.Sessions.{JudgedCall, JudgedCallAt, Starts, Takes, judged_at}
+use Rattle.wb_judged_sessions.specs.Sessions.{JudgedCall, JudgedCallAt, Starts, Takes, Tunes, judged_at}
 use Rattle.wb_judged_sessions.specs.Terms.{AreTaken, IsTaken}
 use Rattle.wb_judged_sessions.specs.Unhushed.{AllAre, AreBeside, ComesWhen, FirmForItsTurn, IsFirmAt, IsInTurn, StaysFirm, TurnsAreFirm}
 use Rattle.wb_judged_sessions.proofs.Answered.{me_at}
@@ -26,6 +26,7 @@ module _ (One Other : ℕ → Judged → Type 0) (until : ℕ) (n : NameValue) w
   comes_too (Takes (Passed now news)) h then is = tt
   comes_too (Takes (UserDrew now page op)) h then is = tt
   comes_too (Takes (Held line)) h then is = is
+  comes_too (Tunes constants) h then is = tt
 
 -- a name that is firm beside a number of others is firm at a member beside which they are
 firm_beside : (numbers : ℕ → ℕ) (place : ℕ) (name : NameValue) (others at : ℕ) (calls : List JudgedCallAt) → AreBeside others at (judged_at numbers calls place) → is_firm_beside others (numbers place) name at ≡ true

@@ -5,7 +5,7 @@ use Rattle.std.proofs.lemmas.List.{append_cancel_right}
 use Rattle.wb_names.specs.declared.echo.Echo.{Echo}
 use Rattle.wb_names.specs.declared.name.PageId.{PageId}
 use Rattle.wb_names.specs.declared.parts.Op.{Op}
-use Rattle.wb_names.proofs.Listings.{Contains-map}
+use Rattle.wb_names.proofs.Listings.{Contains-map, Contains-none}
 use Rattle.wb_codec.specs.declared.datagram.Datagram.{Datagram}
 use Rattle.wb_codec.specs.declared.datagram.Datagram.TheVariants.{AskPages, Draw, PageState, Request, Session}
 use Rattle.wb_judge.specs.Adding.{own_echo}
@@ -30,16 +30,17 @@ use Rattle.wb_judging.proofs.MembersIn.{needed_is_handed_in}
 use Rattle.wb_judging.proofs.Numbers.{me_judging}
 use Rattle.wb_laws_kept.specs.Sessions.{CallAt, Handed, kept_at}
 use Rattle.wb_kept_progress.specs.Since.{IsHandedIn, IsSpared, IsTimelyWithStarts, WasSentBy as WasKeptSent, called_at as kept_called_at}
-use Rattle.wb_judged_sessions.specs.Sessions.{JudgedCallAt, Takes, judged_at, kept_calls, plain, plain_line}
-use Rattle.wb_judged_sessions.specs.Terms.{AreTaken, IsLineTaken}
-use Rattle.wb_judged_sessions.specs.Timely.{AreInOrder, Arrives, IsTimely, JudgedIsTimely}
+use Rattle.wb_judged_sessions.specs.Sessions.{JudgedCall, JudgedCallAt, Starts, Takes, Tunes, judged_at, kept_calls, plain_line}
+use Rattle.wb_laws_machines.specs.Maps.{plain}
+use Rattle.wb_judged_sessions.specs.Terms.{AreTaken, IsLineTaken, IsTaken}
+use Rattle.wb_judged_sessions.specs.Timely.{AreInOrder, Arrives, IsNoStart, IsTimely, JudgedIsTimely}
 use Rattle.wb_judged_sessions.proofs.Drawn.{DrawsNone, came_draws}
 use Rattle.wb_judged_sessions.proofs.Echoes.{call_sends, plain_again}
 use Rattle.wb_judged_sessions.proofs.Kept.{at, calls_split, judged_is_kept}
 use Rattle.wb_judged_sessions.proofs.Plain.{plain_sent}
 use Rattle.wb_judged_sessions.proofs.Sent.{echo_mine, line_sends}
 use Rattle.wb_judged_sessions.proofs.Terms.{fault_none, own_at, taken_kept}
-use Rattle.wb_judged_sessions.proofs.Timely.{FromLine, called_kept, fit_kept, from_line, order_kept, order_part, takes_is, taken_at}
+use Rattle.wb_judged_sessions.proofs.Timely.{FromCall, called_kept, fit_kept, from_call, line_for, line_is, order_kept, order_part, taken_at, taken_call, takes_is}
 
 -- ---- the datagram without the echo
 
@@ -59,51 +60,66 @@ came_one : (now then : ℕ) (v w : Datagram) → Came now v ≡ Came then w → 
 came_one now then v w e = (cc, cc)
 
 -- It draws nothing, unless its user draws.
-none_drawn : (line : Call) (h : Judged) → ((now : ℕ) (page : PageId) (op : Op) → line ≡ UserDrew now page op → ⊥) → ((recalled : RecordLine) → line ≡ Held recalled → ⊥)
-    → DrawsNone (plain_line (handed line h))
-none_drawn (CameFrom now o v) h drew held = came_draws now v (verdict_on now o v h).why
-none_drawn (Passed now news) h drew held = tt
-none_drawn (UserDrew now page op) h drew held = absurd (drew now page op refl)
-none_drawn (Held line) h drew held = absurd (held line refl)
+none_drawn : (call : JudgedCall) (steady : IsNoStart call) (h : Judged) → ((now : ℕ) (page : PageId) (op : Op) → call ≡ Takes (UserDrew now page op) → ⊥)
+    → ((recalled : RecordLine) → call ≡ Takes (Held recalled) → ⊥) → DrawsNone (line_for call steady h)
+none_drawn (Starts start given) steady h drew held = absurd steady
+none_drawn (Takes (CameFrom now o v)) steady h drew held = came_draws now v (verdict_on now o v h).why
+none_drawn (Takes (Passed now news)) steady h drew held = tt
+none_drawn (Takes (UserDrew now page op)) steady h drew held = absurd (drew now page op refl)
+none_drawn (Takes (Held line)) steady h drew held = absurd (held line refl)
+none_drawn (Tunes constants) steady h drew held = tt
 
 -- If it hands a datagram in, that came and was let in.
-record LetIn (line : Call) (h : Judged) (v : Datagram) : Type 0 where
+record LetIn (call : JudgedCall) (h : Judged) (v : Datagram) : Type 0 where
   now : ℕ
   origin : Origin
   whole : Datagram
-  is : line ≡ CameFrom now origin whole
+  is : call ≡ Takes (CameFrom now origin whole)
   lets : handed (CameFrom now origin whole) h ≡ Came now whole
   same : plain whole ≡ v
 
-let_in : (line : Call) (h : Judged) (now : ℕ) (v : Datagram) → ((recalled : RecordLine) → line ≡ Held recalled → ⊥) → plain_line (handed line h) ≡ Came now v → LetIn line h v
-let_in (CameFrom then o w) h now v held e = by (verdict_on then o w h).why refl e where
-  by : (why : Option Why) → (verdict_on then o w h).why ≡ why → plain_line (handed_for then w why) ≡ Came now v → LetIn (CameFrom then o w) h v
+let_in : (call : JudgedCall) (steady : IsNoStart call) (h : Judged) (now : ℕ) (v : Datagram) → ((recalled : RecordLine) → call ≡ Takes (Held recalled) → ⊥) → line_for call steady h ≡ Came now v
+    → LetIn call h v
+let_in (Starts start given) steady h now v held e = absurd steady
+let_in (Takes (CameFrom then o w)) steady h now v held e = by (verdict_on then o w h).why refl e where
+  by : (why : Option Why) → (verdict_on then o w h).why ≡ why → plain_line (handed_for then w why) ≡ Came now v → LetIn (Takes (CameFrom then o w)) h v
   by None is e = record { now = then; origin = o; whole = w; is = refl; lets = ap (λ (why : Option Why). handed_for then w why) is; same = (came_one then now (plain w) v e).1 }
   by (Some why) is e = absurd cc
-let_in (Passed then news) h now v held e = absurd cc
-let_in (UserDrew then page op) h now v held e = absurd cc
-let_in (Held line) h now v held e = absurd (held line refl)
+let_in (Takes (Passed then news)) steady h now v held e = absurd cc
+let_in (Takes (UserDrew then page op)) steady h now v held e = absurd cc
+let_in (Takes (Held line)) steady h now v held e = absurd (held line refl)
+let_in (Tunes constants) steady h now v held e = absurd cc
 
 -- ---- what a line sends
 
 -- What the self-managing member sends, the judged one sends with an echo or without.
-record SaysAs (line : Call) (h : Judged) (v : Datagram) : Type 0 where
+record SaysAs (call : JudgedCall) (h : Judged) (v : Datagram) : Type 0 where
+  line : Call
+  takes : call ≡ Takes line
   whole : Datagram
   sent : Contains (sends_in (events_of line h)) whole
   same : plain whole ≡ v
 
-says_as : (line : Call) (h : Judged) → h.judge.me ≡ h.kept.host.is.number → IsLineTaken line h → (v : Datagram) → Contains (sent_by_doing (doing_of (handed line h)) h.kept) v → SaysAs line h v
+says_as : (line : Call) (h : Judged) → h.judge.me ≡ h.kept.host.is.number → IsLineTaken line h → (v : Datagram) → Contains (sent_by_doing (doing_of (handed line h)) h.kept) v → SaysAs (Takes line) h v
 unfolding sent_by_kept_line
 says_as line h own taken v c =
     let j = judging line h in
     let echo = own_echo (moment_of line h) j in
     let mine : (e : Echo) → echo ≡ Some e → e.source ≡ h.kept.host.is.number = λ e is. echo_mine j.me (moment_of line h) j.alien e is ∙ me_judging line h ∙ own in
     record {
+      line = line;
+      takes = refl;
       whole = echoing echo v;
       sent = subst (λ (vs : List Datagram). Contains vs (echoing echo v)) (sym (sends_as_kept line h))
           (Contains-map (echoing echo) (sent_by_doing (doing_of (handed line h)) h.kept) (echoing echo v) (c.0, v, c.1, c.2, refl));
       same = plain_again h.kept.host.is.number echo mine v (call_sends (handed line h) h.kept (fault_none line h own taken) v c);
     }
+
+call_says : (call : JudgedCall) (steady : IsNoStart call) (h : Judged) → h.judge.me ≡ h.kept.host.is.number → IsTaken call h → (v : Datagram)
+    → Contains (sent_by_doing (doing_of (line_for call steady h)) h.kept) v → SaysAs call h v
+call_says (Starts start given) steady h own taken v c = absurd steady
+call_says (Takes line) steady h own taken v c = says_as line h own taken v (subst (λ (vs : List Datagram). Contains vs v) (plain_sent (handed line h) h.kept) c)
+call_says (Tunes constants) steady h own taken v c = absurd (Contains-none v c)
 
 -- ---- the terms
 
@@ -111,11 +127,11 @@ module _ (numbers : ℕ → ℕ) (terms : Terms) (calls : List JudgedCallAt) (s 
   abbrev kept : List CallAt
   kept = kept_calls numbers calls
 
-  from : (newer older : List CallAt) (e : CallAt) → kept ≡ newer ++ e ∷ older → terms.quiet < e.time → FromLine numbers calls e older
-  from newer older e split late = from_line numbers terms.quiet calls s.order (λ newer older e split late. (s.alone newer older e split late).1) newer older e split late
+  from : (newer older : List CallAt) (e : CallAt) → kept ≡ newer ++ e ∷ older → terms.quiet < e.time → FromCall numbers calls e older
+  from newer older e split late = from_call numbers terms.quiet calls s.order (λ newer older e split late. (s.alone newer older e split late).1) newer older e split late
 
   module _ (newer older : List CallAt) (e : CallAt) (split : kept ≡ newer ++ e ∷ older) (late : terms.quiet < e.time) where
-    abbrev f : FromLine numbers calls e older
+    abbrev f : FromCall numbers calls e older
     f = from newer older e split late
 
     abbrev h : Judged
@@ -127,7 +143,10 @@ module _ (numbers : ℕ → ℕ) (terms : Terms) (calls : List JudgedCallAt) (s 
     place_is : e.place ≡ f.call.place
     place_is = ap (λ (c : CallAt). c.place) f.is
 
-    call_is : e.call ≡ Handed (plain_line (handed f.line h))
+    abbrev line_is_for : KeptLine
+    line_is_for = line_for f.call.call f.steady h
+
+    call_is : e.call ≡ Handed line_is_for
     call_is = ap (λ (c : CallAt). c.call) f.is
 
     later_than : terms.quiet < f.call.time
@@ -136,24 +155,24 @@ module _ (numbers : ℕ → ℕ) (terms : Terms) (calls : List JudgedCallAt) (s 
     base_is : e ∷ older ≡ kept_calls numbers (f.call ∷ f.before)
     base_is =
         ap (λ (c : CallAt). c ∷ older) f.is
-        ∙ ap (λ (cs : List CallAt). at f.call.time f.call.place (plain_line (handed f.line h)) ∷ cs) f.older_is
-        ∙ sym (takes_is numbers f.call f.before f.line f.takes)
+        ∙ ap (λ (cs : List CallAt). at f.call.time f.call.place line_is_for ∷ cs) f.older_is
+        ∙ sym (line_is numbers f.call f.before f.steady)
 
     there_is : (i : ℕ) → kept_at numbers older i ≡ (judged_at numbers f.before i).kept
     there_is i = ap (λ (cs : List CallAt). kept_at numbers cs i) f.older_is ∙ sym (judged_is_kept numbers f.before i)
 
-    not_held : (line : RecordLine) → f.line ≡ Held line → ⊥
-    not_held line is = s.recalled f.later f.before f.call line f.split later_than (f.takes ∙ ap (λ (l : Call). Takes l) is)
+    not_held : (line : RecordLine) → f.call.call ≡ Takes (Held line) → ⊥
+    not_held line is = s.recalled f.later f.before f.call line f.split later_than is
 
-    not_drawn : (now : ℕ) (page : PageId) (op : Op) → f.line ≡ UserDrew now page op → ⊥
-    not_drawn now page op is = s.drawn f.later f.before f.call now page op f.split later_than (f.takes ∙ ap (λ (l : Call). Takes l) is)
+    not_drawn : (now : ℕ) (page : PageId) (op : Op) → f.call.call ≡ Takes (UserDrew now page op) → ⊥
+    not_drawn now page op is = s.drawn f.later f.before f.call now page op f.split later_than is
 
     alone_kept : Contains terms.live e.place × ((line : KeptLine) × (e.call ≡ Handed line))
-    alone_kept = (subst (Contains terms.live) (sym place_is) (s.alone f.later f.before f.call f.split later_than).0, (plain_line (handed f.line h), call_is))
+    alone_kept = (subst (Contains terms.live) (sym place_is) (s.alone f.later f.before f.call f.split later_than).0, (line_is_for, call_is))
 
     drawn_kept : (now : ℕ) (page : PageId) (time : ℕ) (op : Op) → e.call ≡ Handed (Added now page time op) → ⊥
     drawn_kept now page time op is =
-        subst DrawsNone (handed_one (plain_line (handed f.line h)) (Added now page time op) (sym call_is ∙ is)) (none_drawn f.line h not_drawn not_held)
+        subst DrawsNone (handed_one line_is_for (Added now page time op) (sym call_is ∙ is)) (none_drawn f.call.call f.steady h not_drawn not_held)
 
     soon_kept : (i : ℕ) → Contains terms.live i → e.time ≤ due (kept_at numbers older i) + (terms.lag i + terms.late)
     soon_kept i live =
@@ -167,16 +186,13 @@ module _ (numbers : ℕ → ℕ) (terms : Terms) (calls : List JudgedCallAt) (s 
 
     -- ---- what is sent comes
 
-    taken : IsLineTaken f.line h
-    taken = taken_at numbers f.later f.before f.call f.line (subst (AreTaken numbers) f.split s.taken) f.takes
-
-    sends : (line : KeptLine) → e.call ≡ Handed line → (v : Datagram) → Contains (sent_by_doing (doing_of line) (kept_at numbers older e.place)) v → SaysAs f.line h v
+    sends : (line : KeptLine) → e.call ≡ Handed line → (v : Datagram) → Contains (sent_by_doing (doing_of line) (kept_at numbers older e.place)) v → SaysAs f.call.call h v
     sends line called v c =
-        let is : line ≡ plain_line (handed f.line h) = handed_one line (plain_line (handed f.line h)) (sym called ∙ call_is) in
+        let is : line ≡ line_is_for = handed_one line line_is_for (sym called ∙ call_is) in
         let here : kept_at numbers older e.place ≡ h.kept = ap (λ (i : ℕ). kept_at numbers older i) place_is ∙ there_is f.call.place in
-        let said = subst (λ (k : Keeping). Contains (sent_by_doing (doing_of (plain_line (handed f.line h))) k) v) here
+        let said = subst (λ (k : Keeping). Contains (sent_by_doing (doing_of line_is_for) k) v) here
         (subst (λ (l : KeptLine). Contains (sent_by_doing (doing_of l) (kept_at numbers older e.place)) v) is c) in
-        says_as f.line h (own_at numbers f.before f.call.place) taken v (subst (λ (vs : List Datagram). Contains vs v) (plain_sent (handed f.line h) h.kept) said)
+        call_says f.call.call f.steady h (own_at numbers f.before f.call.place) (taken_call numbers f.later f.before f.call (subst (AreTaken numbers) f.split s.taken)) v said
 
     module _ (j : ℕ) (v whole : Datagram) (same : plain whole ≡ v) (a : Arrives numbers f.later (f.call ∷ f.before) j (f.call.time + terms.delivery) whole) where
       abbrev base : List JudgedCallAt
@@ -269,15 +285,15 @@ module _ (numbers : ℕ → ℕ) (terms : Terms) (calls : List JudgedCallAt) (s 
         let time = time_is in
         let end = called_kept numbers calls in
         arrives j v said.whole said.same
-        (s.delivered f.later f.before f.call f.line j said.whole f.split f.takes live (λ here. apart (place_is ∙ here)) later_than said.sent (omega (arith, long, time, end)))
+        (s.delivered f.later f.before f.call said.line j said.whole f.split said.takes live (λ here. apart (place_is ∙ here)) later_than said.sent (omega (arith, long, time, end)))
 
     -- ---- what comes was sent
 
     fresh_kept : settled_by terms < e.time → (now : ℕ) (v : Datagram) → e.call ≡ Handed (Came now v) → WasKeptSent numbers older e.time terms.delivery v
     fresh_kept settled now v called =
-        let l = let_in f.line h now v not_held (handed_one (plain_line (handed f.line h)) (Came now v) (sym call_is ∙ called)) in
+        let l = let_in f.call.call f.steady h now v not_held (handed_one line_is_for (Came now v) (sym call_is ∙ called)) in
         let time = time_is in
-        let w = s.fresh f.later f.before f.call l.now l.origin l.whole f.split (omega (arith, settled, time)) (f.takes ∙ ap (λ (x : Call). Takes x) l.is) l.lets in
+        let w = s.fresh f.later f.before f.call l.now l.origin l.whole f.split (omega (arith, settled, time)) l.is l.lets in
         let sender = judged_at numbers w.before w.e.place in
         let line = plain_line (handed w.line sender) in
         let part = calls_split numbers w.newer (w.e ∷ w.before) in
@@ -312,7 +328,7 @@ module _ (numbers : ℕ → ℕ) (terms : Terms) (calls : List JudgedCallAt) (s 
     taken = taken_kept numbers calls s.taken;
     order = order_kept numbers calls s.order;
     covered = s.covered;
-    far = s.far;
+    delays = s.delays;
     fitting = λ i live. fit_kept numbers terms i calls (s.fitting i live);
     alone = λ newer older e split late. alone_kept newer older e split late;
     drawn = λ newer older e now page time op split late is. drawn_kept newer older e split late now page time op is;

@@ -1,7 +1,7 @@
 -- Each judged member is the self-managing one at its place.
 use Rattle.std.proofs.Common.{◌≡◌, ℕ, Bool, true, false, cond, List, [], ◌∷◌, ◌++◌, ◌∙◌, ap, append_assoc, eqb-true, map, refl, sym}
 use Rattle.std.specs.Prelude.{nat_eq}
-use Rattle.wb_keeping.specs.Laws.{KeptLine, after_kept, doing_of}
+use Rattle.wb_keeping.specs.Laws.{KeptLine, Tuned, after_kept, doing_of}
 use Rattle.wb_keeping.specs.Performing.{Keeping, after_doing}
 use Rattle.wb_judging.specs.Handing.{handed}
 use Rattle.wb_judging.specs.Judged.{Judged}
@@ -13,7 +13,7 @@ use Rattle.wb_judging.specs.declared.record.RecordLine.{RecordLine}
 use Rattle.wb_judging.proofs.AsKept.{judged_members_are_kept}
 use Rattle.wb_laws_kept.specs.Openings.{opened}
 use Rattle.wb_laws_kept.specs.Sessions.{Begins, CallAt, Handed, kept_at}
-use Rattle.wb_judged_sessions.specs.Sessions.{JudgedCall, JudgedCallAt, JudgedIsKept, Starts, Takes, after_call, judged_at, kept_calls, kept_then, lines_then, plain_line, started}
+use Rattle.wb_judged_sessions.specs.Sessions.{JudgedCall, JudgedCallAt, JudgedIsKept, Starts, Takes, Tunes, after_call, judged_at, kept_calls, kept_then, lines_then, plain_line, started}
 use Rattle.wb_judged_sessions.proofs.Plain.{plain_after}
 
 abbrev pub at : ℕ → ℕ → KeptLine → CallAt
@@ -57,6 +57,7 @@ module _ (numbers : ℕ → ℕ) (time place : ℕ) where
       → kept_at numbers (kept_then time place call h older) i ≡ (after_call call h).kept
   call_kept (Starts start given) h older i e same = starts_kept h older i e same start given
   call_kept (Takes line) h older i e same = takes_kept h older i e same line
+  call_kept (Tunes constants) h older i e same = kept_lines (Tuned constants ∷ []) older i true e ∙ ap (λ (k : Keeping). after_doing (doing_of (Tuned constants)) k) (sym same)
 
   -- whoever is at another place stays
   pub others_stay : (call : JudgedCall) (h : Judged) (older : List CallAt) (i : ℕ) → nat_eq place i ≡ false
@@ -65,6 +66,7 @@ module _ (numbers : ℕ → ℕ) (time place : ℕ) where
       kept_lines (expanded (map Held given) (started h.kept.host.is.number start)) (record { time = time; place = place; call = Begins start.opening [] } ∷ older) i false e
       ∙ ap (λ (b : Bool). cond b (opened (kept_at numbers older i).host.is.number start.opening) (kept_at numbers older i)) e
   others_stay (Takes line) h older i e = kept_lines (plain_line (handed line h) ∷ []) older i false e
+  others_stay (Tunes constants) h older i e = kept_lines (Tuned constants ∷ []) older i false e
 
 module _ (numbers : ℕ → ℕ) where
   one_call : (e : JudgedCallAt) (older : List JudgedCallAt) (i : ℕ) → (judged_at numbers older i).kept ≡ kept_at numbers (kept_calls numbers older) i
@@ -97,6 +99,7 @@ call_split time place (Starts start given) h older =
     let rest = lines_split time place (expanded (map Held given) (started h.kept.host.is.number start)) (begins ∷ older) in
     (rest.0 ++ begins ∷ [], rest.1 ∙ sym (append_assoc rest.0 (begins ∷ []) older))
 call_split time place (Takes line) h older = lines_split time place (plain_line (handed line h) ∷ []) older
+call_split time place (Tunes constants) h older = lines_split time place (Tuned constants ∷ []) older
 
 pub calls_split : (numbers : ℕ → ℕ) (newer older : List JudgedCallAt) → (front : List CallAt) × (kept_calls numbers (newer ++ older) ≡ front ++ kept_calls numbers older)
 calls_split numbers [] older = ([], refl)

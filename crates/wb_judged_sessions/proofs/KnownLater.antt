@@ -34,9 +34,10 @@ use Rattle.wb_judging.proofs.NewsTold.{leaves_others}
 use Rattle.wb_kept_progress.proofs.CallParts.{due_by_report}
 use Rattle.wb_judged_sessions.specs.Known.{ComeInTime, Comes, JudgedStayKnown, KnowEachOther, KnownBecomeWhole, moment_by, until}
 use Rattle.wb_judged_sessions.specs.Knowing.{HasRoom, IsKnownSince, LeavesKnown}
-use Rattle.wb_judged_sessions.specs.Sessions.{JudgedCall, JudgedCallAt, Takes, after_call, judged_at, plain}
+use Rattle.wb_judged_sessions.specs.Sessions.{JudgedCall, JudgedCallAt, Starts, Takes, Tunes, after_call, judged_at}
+use Rattle.wb_laws_machines.specs.Maps.{plain}
 use Rattle.wb_judged_sessions.specs.Terms.{AreTaken, IsLineTaken}
-use Rattle.wb_judged_sessions.specs.Timely.{AreFittingSince, AreInOrder, Arrives, IsFittingSince, IsTimely, called_at}
+use Rattle.wb_judged_sessions.specs.Timely.{AreFittingSince, AreInOrder, Arrives, IsFittingSince, IsNoStart, IsTimely, called_at}
 use Rattle.wb_judged_sessions.proofs.Clocks.{due_at, present_at}
 use Rattle.wb_judged_sessions.proofs.Echoes.{IsOfMember as IsUnder, call_sends}
 use Rattle.wb_judged_sessions.proofs.Records.{number_at}
@@ -171,11 +172,13 @@ module _ (numbers : ℕ → ℕ) (origins : ℕ → ℕ → Origin) (terms : Ter
   abbrev FitsAs : (i : ℕ) → JudgedCallAt → List JudgedCallAt → Bool → JudgedCall → Type 0
   FitsAs i x older b call = IsFittingSince terms (numbers i) i b x.time call (judged_at numbers older x.place) (AreFittingSince terms numbers i older)
 
-  fit_tail : (i : ℕ) (x : JudgedCallAt) (older : List JudgedCallAt) (line : Call) → x.call ≡ Takes line → AreFittingSince terms numbers i (x ∷ older) → AreFittingSince terms numbers i older
-  fit_tail i x older line takes fits = by (nat_eq x.place i) (subst (λ (call : JudgedCall). FitsAs i x older (nat_eq x.place i) call) takes fits) where
-    by : (b : Bool) → FitsAs i x older b (Takes line) → AreFittingSince terms numbers i older
-    by true fits = fits.1
-    by false fits = fits
+  fit_tail : (i : ℕ) (x : JudgedCallAt) (older : List JudgedCallAt) → IsNoStart x.call → AreFittingSince terms numbers i (x ∷ older) → AreFittingSince terms numbers i older
+  fit_tail i x older steady fits = by (nat_eq x.place i) x.call steady fits where
+    by : (b : Bool) (call : JudgedCall) → IsNoStart call → FitsAs i x older b call → AreFittingSince terms numbers i older
+    by false call steady fits = fits
+    by true (Starts start given) steady fits = absurd steady
+    by true (Takes line) steady fits = fits.1
+    by true (Tunes constants) steady fits = fits.1
 
   fit_now : (i : ℕ) (x : JudgedCallAt) (older : List JudgedCallAt) (line : Call) → x.call ≡ Takes line → x.place ≡ i → AreFittingSince terms numbers i (x ∷ older)
       → IsNowAt terms x.time i (moment_of line (judged_at numbers older i))
@@ -188,7 +191,7 @@ module _ (numbers : ℕ → ℕ) (origins : ℕ → ℕ → Origin) (terms : Ter
   fits newer [] base i split late f = f
   fits newer (x ∷ front) base i split late f =
       let t = (s.alone newer (front ++ base) x split (late x (Contains-here x front))).1 in
-      fits (newer ++ x ∷ []) front base i (split ∙ sym (append_assoc newer (x ∷ []) (front ++ base))) (λ c among. late c (Contains-there x c front among)) (fit_tail i x (front ++ base) t.0 t.1 f)
+      fits (newer ++ x ∷ []) front base i (split ∙ sym (append_assoc newer (x ∷ []) (front ++ base))) (λ c among. late c (Contains-there x c front among)) (fit_tail i x (front ++ base) t f)
 
   fitting_of : (newer base : List JudgedCallAt) (i : ℕ) → calls ≡ newer ++ base → AllLate terms.quiet newer → Contains terms.live i → AreFittingSince terms numbers i base
   fitting_of newer base i split late live = fits [] newer base i split late (subst (AreFittingSince terms numbers i) split (s.fitting i live))
@@ -235,10 +238,11 @@ module _ (numbers : ℕ → ℕ) (origins : ℕ → ℕ → Origin) (terms : Ter
       by false other = m
       by true same =
           let here = eqb-true x.place j same in
-          let t = (s.alone newer older x split soon.0).1 in
-          let room = subst (λ (q : ℕ). HasRoom (judged_at numbers older q).judge) here (k.room newer older x split soon.0) in
-          subst (λ (call : JudgedCall). IsKnownSince (origins j i) (numbers i) (moment_by terms time j) (after_call call h).judge) (sym t.1)
-          (stays_known t.0 h (origins j i) (numbers i) (moment_by terms time j) room (leaves newer older x t.0 split soon here t.1) m)
+          called x.call refl (s.alone newer older x split soon.0).1 here (subst (λ (q : ℕ). HasRoom (judged_at numbers older q).judge) here (k.room newer older x split soon.0)) where
+            called : (call : JudgedCall) → x.call ≡ call → IsNoStart call → x.place ≡ j → HasRoom h.judge → IsKnownSince (origins j i) (numbers i) (moment_by terms time j) (after_call call h).judge
+            called (Starts start given) is steady here room = absurd steady
+            called (Takes line) is steady here room = stays_known line h (origins j i) (numbers i) (moment_by terms time j) room (leaves newer older x line split soon here is) m
+            called (Tunes constants) is steady here room = m
 
     persists : (newer front base : List JudgedCallAt) → calls ≡ newer ++ (front ++ base) → AreSoon front → Since time i j base → Since time i j (front ++ base)
     persists newer [] base split soon m = m
@@ -291,25 +295,27 @@ module _ (numbers : ℕ → ℕ) (origins : ℕ → ℕ → Origin) (terms : Ter
             → (report_due (let after : Judged = cond b (after_call x.call h) h in after.kept) ≡ report_due (judged_at numbers base i).kept) ⊎ SaidIn (x ∷ window) base i
         by same false other = inl same
         by same true is =
-            let here = eqb-true x.place i is in
-            let t = (s.alone newer older x split (late x (Contains-here x window))).1 in
-            let taken : IsLineTaken t.0 h = subst (λ (q : ℕ). IsLineTaken t.0 (judged_at numbers older q)) here (taken_at numbers newer older x t.0 (subst (AreTaken numbers) split s.taken) t.1) in
-            ⊎_elim
-            (λ (still : report_due (after_doing (doing_of (handed t.0 h)) h.kept) ≡ report_due h.kept).
-            inl (subst (λ (call : JudgedCall). report_due (after_call call h).kept ≡ report_due (judged_at numbers base i).kept) (sym t.1) (still ∙ same)))
-            (λ (said : IsReported (sent_by_doing (doing_of (handed t.0 h)) h.kept) × (report_due (after_doing (doing_of (handed t.0 h)) h.kept) ≤ present (after_doing (doing_of (handed t.0 h)) h.kept).host + 96000000)).
-            inr (record {
-              later = [];
-              call = x;
-              between = window;
-              split = refl;
-              place = here;
-              line = t.0;
-              takes = t.1;
-              report = subst (λ (q : ℕ). IsReported (sends_in (events_of t.0 (judged_at numbers older q)))) (sym here) (reported t.0 h said.0);
-              due = same;
-            }))
-            (call_reports (handed t.0 h) h.kept (fault_none t.0 h (own_at numbers older i) taken)).due
+            called x.call refl (s.alone newer older x split (late x (Contains-here x window))).1 (eqb-true x.place i is) where
+              called : (call : JudgedCall) → x.call ≡ call → IsNoStart call → x.place ≡ i → (report_due (after_call call h).kept ≡ report_due (judged_at numbers base i).kept) ⊎ SaidIn (x ∷ window) base i
+              called (Starts start given) is_call steady here = absurd steady
+              called (Tunes constants) is_call steady here = inl same
+              called (Takes line) is_call steady here =
+                  let taken : IsLineTaken line h = subst (λ (q : ℕ). IsLineTaken line (judged_at numbers older q)) here (taken_at numbers newer older x line (subst (AreTaken numbers) split s.taken) is_call) in
+                  ⊎_elim
+                  (λ (still : report_due (after_doing (doing_of (handed line h)) h.kept) ≡ report_due h.kept). inl (still ∙ same))
+                  (λ (said : IsReported (sent_by_doing (doing_of (handed line h)) h.kept) × (report_due (after_doing (doing_of (handed line h)) h.kept) ≤ present (after_doing (doing_of (handed line h)) h.kept).host + 96000000)).
+                  inr (record {
+                    later = [];
+                    call = x;
+                    between = window;
+                    split = refl;
+                    place = here;
+                    line = line;
+                    takes = is_call;
+                    report = subst (λ (q : ℕ). IsReported (sends_in (events_of line (judged_at numbers older q)))) (sym here) (reported line h said.0);
+                    due = same;
+                  }))
+                  (call_reports (handed line h) h.kept (fault_none line h (own_at numbers older i) taken)).due
 
         from : IsStillOrSaid window base i → IsStillOrSaid (x ∷ window) base i
         from (inr said) = inr (later_said x window base i said)
@@ -601,7 +607,7 @@ module _ (numbers : ℕ → ℕ) (origins : ℕ → ℕ → Origin) (terms : Ter
     taken = s.taken;
     order = s.order;
     covered = s.covered;
-    far = s.far;
+    delays = s.delays;
     fitting = s.fitting;
     alone = s.alone;
     drawn = s.drawn;

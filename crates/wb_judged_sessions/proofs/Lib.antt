@@ -8,6 +8,7 @@ pub mod Days
 pub mod SaidOnly
 pub mod Echoes
 pub mod Sent
+pub mod Judged
 pub mod True
 pub mod Listening
 pub mod Examples

@@ -10,7 +10,7 @@ use Rattle.wb_codec.specs.declared.datagram.Datagram.{Datagram}
 use Rattle.wb_codec.specs.declared.datagram.Datagram.TheVariants.{AskPages, Draw, PageState, Request, Session}
 use Rattle.wb_keeper.specs.Hearing.{marks_in}
 use Rattle.wb_member.specs.Opened.{last_number}
-use Rattle.wb_keeping.specs.Laws.{Came, KeptLine}
+use Rattle.wb_keeping.specs.Laws.{Came, KeptLine, Tuned}
 use Rattle.wb_keeping.specs.Performing.{Keeping}
 use Rattle.wb_judge.specs.declared.origin.Origin.{Origin}
 use Rattle.wb_judging.specs.Handing.{handed}
@@ -24,7 +24,8 @@ use Rattle.wb_laws_kept.specs.Sessions.{Begins, CallAt, Handed, kept_at}
 use Rattle.wb_laws_kept.proofs.Listening.{listening_tells as kept_listening_tells}
 use Rattle.wb_laws_sessions.proofs.Sending.{one_of}
 use Rattle.wb_judged_sessions.specs.Laws.{HasNotStarted, ListeningTells}
-use Rattle.wb_judged_sessions.specs.Sessions.{JudgedCall, JudgedCallAt, Start, Starts, Takes, judged_at, kept_calls, kept_then, lines_then, plain, plain_line, started}
+use Rattle.wb_judged_sessions.specs.Sessions.{JudgedCall, JudgedCallAt, Start, Starts, Takes, Tunes, judged_at, kept_calls, kept_then, lines_then, plain_line, started}
+use Rattle.wb_laws_machines.specs.Maps.{plain}
 use Rattle.wb_judged_sessions.proofs.Kept.{at, judged_is_kept}
 
 -- ---- the same of a datagram without the echo
@@ -84,6 +85,7 @@ module _ (i time place : ℕ) where
   of_call : (call : JudgedCall) (h : Judged) (older : List CallAt) → ((start : Start) (given : List RecordLine) → place ≡ i → call ≡ Starts start given → ⊥)
       → Front i (kept_then time place call h older) older
   of_call (Takes line) h older not = of_lines (plain_line (handed line h) ∷ []) older
+  of_call (Tunes constants) h older not = of_lines (Tuned constants ∷ []) older
   of_call (Starts start given) h older not =
       let begins : CallAt = record { time = time; place = place; call = Begins start.opening [] } in
       let lines = expanded (map Held given) (started h.kept.host.is.number start) in

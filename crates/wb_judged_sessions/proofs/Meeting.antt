@@ -1,5 +1,5 @@
 -- The example in which two members meet computes, and keeps to what is asked of members that stay known.
-use Rattle.std.proofs.Common.{◌≡◌, ◌≤◌, ◌<◌, ◌+◌, ℕ, true, false, List, [], ◌∷◌, ◌++◌, append-nil, append_assoc, arith, filter, length, refl, subst, sym, ⊎_elim}
+use Rattle.std.proofs.Common.{◌≡◌, ◌≤◌, ◌<◌, ◌+◌, ℕ, true, false, List, [], ◌∷◌, ◌++◌, append-nil, append_assoc, arith, filter, inl, length, refl, subst, sym, ⊎_elim}
 use Rattle.std.specs.Prelude.{◌≢◌, Contains, Some, is_some}
 use Rattle.wb_names.proofs.Listings.{Contains-cases, Contains-here, Contains-none, Contains-there}
 use Rattle.wb_codec.specs.declared.datagram.Datagram.{Datagram}
@@ -30,7 +30,7 @@ use Rattle.wb_judging.specs.declared.news.News.TheVariants.{Gone, Nothing}
 use Rattle.wb_judging.specs.Laws.{sends_in}
 use Rattle.wb_judging.specs.Performing.{after_kept_line, events_of, sent_by_kept_line}
 use Rattle.wb_laws_kept.specs.Openings.{IsOpening, opened_host}
-use Rattle.wb_laws_sessions.specs.Sessions.{AreApart}
+use Rattle.wb_laws_machines.specs.Honest.{AreApart}
 use Rattle.wb_laws_sessions.proofs.Sending.{one_of}
 use Rattle.wb_judged_sessions.specs.Examples.{at, numbers, start}
 use Rattle.wb_judged_sessions.specs.Known.{ComeInTime, Comes, KnowEachOther}
@@ -38,7 +38,7 @@ use Rattle.wb_judged_sessions.specs.Knowing.{HasRoom, IsKnownSince, is_heard_sin
 use Rattle.wb_judged_sessions.specs.Meeting.{HaveMet, again, answered, both_know, came_again, echo, one_knows, origin_of, reports, sent_again, terms, told_again}
 use Rattle.wb_judged_sessions.specs.Sessions.{JudgedCallAt, Starts, Takes, judged_at}
 use Rattle.wb_judged_sessions.specs.Terms.{AreTaken}
-use Rattle.wb_judged_sessions.specs.Timely.{AreFittingSince, AreInOrder, WasSentBy, called_at}
+use Rattle.wb_judged_sessions.specs.Timely.{AreFittingSince, AreInOrder, IsNoStart, WasSentBy, called_at}
 use Rattle.wb_judged_sessions.proofs.Staying.{known_since_earlier}
 
 -- ---- what they do
@@ -364,11 +364,9 @@ they_come = record {
   taken = all_taken;
   order = in_order;
   covered = omega arith;
-  far = omega arith;
+  delays = inl (omega arith);
   fitting = by_place (λ i. AreFittingSince terms numbers i told_again) fit_0 fit_1;
-  alone = at_late (λ newer e older. terms.quiet < e.time → Contains terms.live e.place × ((line : Call) × (e.call ≡ Takes line))) (λ late. (live_1, (Passed 5000002 Nothing, refl)))
-      (λ late. (live_0, (CameFrom 5000001 (origin_of 1) again, refl)))
-      (λ late. (live_1, (Passed 5000000 Nothing, refl)))
+  alone = at_late (λ newer e older. terms.quiet < e.time → Contains terms.live e.place × IsNoStart e.call) (λ late. (live_1, tt)) (λ late. (live_0, tt)) (λ late. (live_1, tt))
       (λ newer e older le late. absurd (omega (arith, le, late)));
   drawn = λ newer older e now page op split.
       at_late (λ newer e older. terms.quiet < e.time → e.call ≢ Takes (UserDrew now page op)) (λ late same. absurd cc) (λ late same. absurd cc) (λ late same. absurd cc)

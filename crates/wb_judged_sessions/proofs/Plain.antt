@@ -15,8 +15,9 @@ use Rattle.wb_keeping.specs.Laws.{Added, Came, KeptLine, Ticked, Tuned, doing_of
 use Rattle.wb_keeping.specs.Performing.{Keeping, after_doing, after_lines, sees, sent_by_doing, sent_by_lines}
 use Rattle.wb_keeping.specs.Views.{View}
 use Rattle.wb_judging.proofs.Heard.{filter_of_filter}
-use Rattle.wb_judged_sessions.specs.Sessions.{PlainIsTheSame, plain, plain_line}
-use Rattle.wb_judged_sessions.specs.Terms.{came_in}
+use Rattle.wb_laws_kept.specs.Kept.{gained_by_line}
+use Rattle.wb_judged_sessions.specs.Sessions.{PlainIsTheSame, plain_line}
+use Rattle.wb_laws_machines.specs.Maps.{plain}
 
 abbrev pub of_others : ℕ → List Echo → List Echo
 of_others sender echoes = filter (λ (e : Echo). not (nat_eq e.source sender)) echoes
@@ -88,15 +89,15 @@ plain_fault (Ticked now) k = refl
 plain_fault (Added now page time op) k = refl
 plain_fault (Tuned constants) k = refl
 
-came_in_same : (now : ℕ) (v : Datagram) → came_in (Came now (plain v)) ≡ came_in (Came now v)
-came_in_same now (Draw d) = refl
-came_in_same now (Session sender sent page marks echoes) = refl
-came_in_same now (Request asker name) = refl
-came_in_same now (AskPages asker) = refl
-came_in_same now (PageState sender page marks) = refl
+gained_same : (now : ℕ) (v : Datagram) → gained_by_line (Came now (plain v)) ≡ gained_by_line (Came now v)
+gained_same now (Draw d) = refl
+gained_same now (Session sender sent page marks echoes) = refl
+gained_same now (Request asker name) = refl
+gained_same now (AskPages asker) = refl
+gained_same now (PageState sender page marks) = refl
 
-pub plain_came : (line : KeptLine) → came_in (plain_line line) ≡ came_in line
-plain_came (Came now v) = came_in_same now v
+pub plain_came : (line : KeptLine) → gained_by_line (plain_line line) ≡ gained_by_line line
+plain_came (Came now v) = gained_same now v
 plain_came (Ticked now) = refl
 plain_came (Added now page time op) = refl
 plain_came (Tuned constants) = refl

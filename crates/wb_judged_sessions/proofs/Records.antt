@@ -24,10 +24,10 @@ use Rattle.wb_laws_kept.proofs.Honest.{kept_are_honest, moments_given, number_of
 use Rattle.wb_laws_kept.proofs.Replaying.{lines_stay, none}
 use Rattle.wb_laws_kept.specs.Sessions.{steps_of}
 use Rattle.wb_laws_sessions.proofs.Drawn.{numbers_count}
-use Rattle.wb_laws_sessions.proofs.Names.{at_most_highest}
+use Rattle.wb_laws_machines.proofs.Names.{at_most_highest}
 use Rattle.wb_laws_sessions.specs.Drawn.{AreHonest}
 use Rattle.wb_judged_sessions.specs.Laws.{BoardsAreFiles, FilesAreWhole, RecordsTell}
-use Rattle.wb_judged_sessions.specs.Sessions.{Holds, JudgedCall, JudgedCallAt, Start, Starts, Takes, after_call, drawn_at, drawn_by, drawn_by_line, judged_at, kept_calls, started}
+use Rattle.wb_judged_sessions.specs.Sessions.{Holds, JudgedCall, JudgedCallAt, Start, Starts, Takes, Tunes, after_call, drawn_at, drawn_by, drawn_by_line, judged_at, kept_calls, started}
 use Rattle.wb_judged_sessions.specs.Terms.{AreTaken, DrawopsWereHeld, IsItsFile, IsWholeRecord, KnowTheirOwn, KnowsItsOwn, RecordsAreWhole, file_after, file_at}
 use Rattle.wb_judged_sessions.proofs.Drawn.{draws_as_kept}
 use Rattle.wb_judged_sessions.proofs.Kept.{judged_is_kept}
@@ -71,6 +71,7 @@ call_files (Takes line) h file is =
     ∙ sym (after_both (cells_of h) [] (drawops_of file) (drawops_of (record_of line h)))
     ∙ ap (λ (ds : List DrawopValue). history_after (cells_of h) [] ds) (sym (drawops_both file (record_of line h)))
     ∙ ap (λ (cells : ℕ). history_after cells [] (drawops_of (file ++ record_of line h))) (sym (cells_line line h))
+call_files (Tunes constants) h file is = is
 
 file_if : (b : Bool) (one other : Judged) (file before : List RecordLine) → IsFile one file → IsFile other before → IsFile (cond b one other) (cond b file before)
 file_if true one other file before a c = a
@@ -112,6 +113,7 @@ module _ (numbers : ℕ → ℕ) where
       (λ (now : Contains (drawn_by_line line h) d). line_gains line h d now)
       (λ (before : Contains (drawn_at numbers older i) d). line_keeps line h d (own d before))
       (Contains-append_cases (drawn_by_line line h) (drawn_at numbers older i) d c)
+  call_holds (Tunes constants) older i whole own d c = own d c
 
   whole_for : (e : JudgedCallAt) (older : List JudgedCallAt) (i : ℕ) → RecordsAreWhole numbers (e ∷ older) → e.place ≡ i
       → (start : Start) (given : List RecordLine) → e.call ≡ Starts start given → IsWholeRecord numbers older i start given

@@ -37,7 +37,7 @@ use Rattle.wb_judging.specs.Performing.{after_judged, events_of, fate_by, judgin
 use Rattle.wb_judging.proofs.AsKept.{sends_as_kept}
 use Rattle.wb_judging.proofs.NewsTold.{news_keeps}
 use Rattle.wb_judged_sessions.specs.Laws.{HasNotStarted}
-use Rattle.wb_judged_sessions.specs.Sessions.{JudgedCall, JudgedCallAt, Start, Starts, Takes, after_call, judged_at, sent_by}
+use Rattle.wb_judged_sessions.specs.Sessions.{JudgedCall, JudgedCallAt, Start, Starts, Takes, Tunes, after_call, judged_at, sent_by}
 use Rattle.wb_judged_sessions.specs.Terms.{AreTaken}
 use Rattle.wb_judged_sessions.proofs.Answered.{after_it}
 use Rattle.wb_judged_sessions.proofs.Echoed.{IsReported, report_moment, reported, taken_line}
@@ -230,6 +230,7 @@ calls_keep numbers place (e ∷ newer) older moment left not k =
           → IsKept moment left (after_call call h).judge.own
       goes (Starts start given) never m = absurd (never start given refl)
       goes (Takes line) never m = line_keeps line h moment left m
+      goes (Tunes constants) never m = fewer moment (0 + left) left h.judge.own (omega arith) m
 
       by : (b : Bool) → nat_eq e.place place ≡ b → IsKept moment (count b + left) h.judge.own → IsKept moment left (let m : Judged = cond b (after_call e.call h) h in m.judge.own)
       by true here m = goes e.call (λ start given same. not e start given (Contains-here e newer) (eqb-true e.place place here) same) m

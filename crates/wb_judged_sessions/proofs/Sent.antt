@@ -26,10 +26,12 @@ use Rattle.wb_judging.proofs.Numbers.{me_judging, own_stays}
 use Rattle.wb_laws_kept.specs.Sessions.{CallAt, kept_at, steps_of}
 use Rattle.wb_laws_kept.proofs.Agreeing.{steps_split}
 use Rattle.wb_laws_kept.proofs.Steps.{kept_is_session}
-use Rattle.wb_laws_sessions.specs.Sessions.{Does, Step, sent as sent_by_steps, sent_by_deeds}
+use Rattle.wb_laws_sessions.specs.Sessions.{Step, sent as sent_by_steps, sent_by_deeds}
+use Rattle.wb_laws_sessions.specs.Members.{Does}
 use Rattle.wb_laws_sessions.proofs.Several.{sent_longer, sent_performed, sent_then}
 use Rattle.wb_judged_sessions.specs.Laws.{SendsAsKept}
-use Rattle.wb_judged_sessions.specs.Sessions.{JudgedCall, JudgedCallAt, Starts, Takes, judged_at, kept_calls, kept_then, lines_then, plain, plain_line, sent, sent_by, sent_by_lines, started}
+use Rattle.wb_judged_sessions.specs.Sessions.{JudgedCall, JudgedCallAt, Starts, Takes, Tunes, judged_at, kept_calls, kept_then, lines_then, plain_line, sent, sent_by, sent_by_lines, started}
+use Rattle.wb_laws_machines.specs.Maps.{plain}
 use Rattle.wb_judged_sessions.specs.Terms.{AreLinesTaken, AreTaken, IsLineTaken, IsTaken}
 use Rattle.wb_judged_sessions.proofs.Echoes.{call_sends, plain_again}
 use Rattle.wb_judged_sessions.proofs.Kept.{at, call_split, judged_is_kept, lines_split}
@@ -120,6 +122,7 @@ module _ (numbers : ℕ → ℕ) where
         sent_at_once (plain_line (handed line h)) older (plain v)
         (subst (λ (vs : List Datagram). Contains vs (plain v)) (sym (plain_sent (handed line h) (kept_at numbers older place)))
         (subst (λ (k : Keeping). Contains (sent_by_doing (doing_of (handed line h)) k) (plain v)) same (line_sends line h own taken v c)))
+    call_sent (Tunes constants) h older same own taken v c = absurd (Contains-none v c)
 
   all_sent : (calls : List JudgedCallAt) → AreTaken numbers calls → (v : Datagram) → Contains (sent numbers calls) v → Sent (kept_calls numbers calls) (plain v)
   all_sent [] taken v c = absurd (Contains-none v c)

@@ -39,7 +39,7 @@ use Rattle.wb_judging.specs.declared.record.RecordLine.{RecordLine}
 use Rattle.wb_judging.proofs.AsKept.{sends_as_kept}
 use Rattle.wb_judged_sessions.specs.Answering.{ReportsAreRemembered}
 use Rattle.wb_judged_sessions.specs.Laws.{HasNotStarted}
-use Rattle.wb_judged_sessions.specs.Sessions.{JudgedCall, JudgedCallAt, Start, Starts, Takes, after_call, judged_at, sent_by}
+use Rattle.wb_judged_sessions.specs.Sessions.{JudgedCall, JudgedCallAt, Start, Starts, Takes, Tunes, after_call, judged_at, sent_by}
 use Rattle.wb_judged_sessions.specs.Terms.{AreTaken, IsTaken}
 use Rattle.wb_judge.specs.declared.limits.TheConstants.{FRESH, MOST_OWN}
 use Rattle.wb_judged_sessions.proofs.Answered.{after_it, taken_part}
@@ -236,6 +236,7 @@ calls_spaced numbers place (e ∷ newer) older not taken =
       goes : (call : JudgedCall) → ((start : Start) (given : List RecordLine) → call ≡ Starts start given → ⊥) → IsTaken call h → IsSpaced (reports_among (sent_by call h)) h.kept (after_call call h).kept
       goes (Starts start given) never t = absurd (never start given refl)
       goes (Takes line) never t = line_spaced line h (fault_none line h (own_at numbers (newer ++ older) place) t)
+      goes (Tunes constants) never t = record { later = omega arith; due = omega arith; last = λ some. absurd (omega (arith, some)) }
 
       by : (b : Bool) → nat_eq e.place place ≡ b → IsSpaced (reports_by numbers place newer older) first h.kept
           → IsSpaced (cond b (reports_among (sent_by e.call h)) 0 + reports_by numbers place newer older) first (let m : Judged = cond b (after_call e.call h) h in m.kept)

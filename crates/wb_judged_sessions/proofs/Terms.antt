@@ -3,14 +3,17 @@ use Rattle.std.proofs.Common.{◌≡◌, ◌≤◌, ℕ, Bool, true, false, cond
 use Rattle.std.specs.Prelude.{Contains, Option, Some, nat_eq}
 use Rattle.std.specs.Option.{option_map}
 use Rattle.std.proofs.lemmas.List.Elements.{Contains-append_left, Contains-append_right}
-use Rattle.wb_names.specs.Faults.{first_of}
+use Rattle.wb_names.specs.Faults.{fault_unless, first_of}
 use Rattle.wb_names.specs.Values.{DrawopValue}
 use Rattle.wb_names.specs.declared.name.PageId.{PageId}
 use Rattle.wb_names.specs.declared.parts.Op.{Op}
 use Rattle.wb_names.proofs.Listings.{Contains-here, Contains-none}
 use Rattle.wb_codec.specs.declared.datagram.Datagram.{Datagram}
 use Rattle.wb_codec.specs.declared.datagram.Datagram.TheVariants.{Draw}
+use Rattle.wb_recovery.specs.Timing.{are_constants}
+use Rattle.wb_recovery.specs.declared.tuning.Tuning.{Tuning}
 use Rattle.wb_member.specs.Opened.{Opened, last_number, present}
+use Rattle.wb_keeper.specs.declared.keep_fault.KeepFault.TheVariants.{Range}
 use Rattle.wb_judge.specs.Adding.{adding_fault}
 use Rattle.wb_judge.specs.Days.{time_of_day}
 use Rattle.wb_judge.specs.Judging.{draws}
@@ -18,6 +21,7 @@ use Rattle.wb_keeping.specs.Laws.{Added, AreTaken as AreKeptLinesTaken, Came, Ke
 use Rattle.wb_keeping.specs.Performing.{Keeping, after_doing}
 use Rattle.wb_keeping.specs.Refusing.{add_fault}
 use Rattle.wb_keeping.specs.declared.kept_fault.KeptFault.{KeptFault}
+use Rattle.wb_keeping.specs.declared.kept_fault.KeptFault.TheVariants.{Host}
 use Rattle.wb_judging.specs.Handing.{handed, recalled, verdict_on}
 use Rattle.wb_judging.specs.Judged.{Judged}
 use Rattle.wb_judging.specs.declared.call.Call.{Call}
@@ -37,9 +41,10 @@ use Rattle.wb_laws_kept.proofs.Agreeing.{steps_split}
 use Rattle.wb_laws_kept.proofs.Steps.{kept_is_session}
 use Rattle.wb_laws_sessions.specs.Drawn.{WasHeld as HeldBySteps}
 use Rattle.wb_laws_sessions.specs.Sessions.{Step, host_at}
+use Rattle.wb_laws_kept.specs.Kept.{gained_by_line}
 use Rattle.wb_judged_sessions.specs.Laws.{JudgedKeepKeptTerms}
-use Rattle.wb_judged_sessions.specs.Sessions.{JudgedCall, JudgedCallAt, Start, Starts, Takes, WasHeld, after_call, judged_at, kept_calls, kept_then, lines_then, plain_line, started}
-use Rattle.wb_judged_sessions.specs.Terms.{AreLinesTaken, AreTaken, DrawopsWereHeld, IsLineTaken, IsTaken, KnowTheirOwn, KnowsItsOwn, brought_by, came_in}
+use Rattle.wb_judged_sessions.specs.Sessions.{JudgedCall, JudgedCallAt, Start, Starts, Takes, Tunes, WasHeld, after_call, judged_at, kept_calls, kept_then, lines_then, plain_line, started}
+use Rattle.wb_judged_sessions.specs.Terms.{AreLinesTaken, AreTaken, DrawopsWereHeld, IsLineTaken, IsTaken, KnowTheirOwn, KnowsItsOwn, brought_by}
 use Rattle.wb_judged_sessions.proofs.Drawn.{DrawNone, DrawsNone, came_draws, draws_as_kept, plain_draws, record_draws}
 use Rattle.wb_judged_sessions.proofs.Kept.{at, calls_split, judged_is_kept}
 use Rattle.wb_judged_sessions.proofs.Listening.{not_begun}
@@ -57,6 +62,7 @@ own_through (line ∷ lines) h own = own_through lines (after_judged line h) (ow
 call_own : (call : JudgedCall) (h : Judged) → IsOwn h → IsOwn (after_call call h)
 call_own (Starts start given) h own = own_through (map Held given) (started h.kept.host.is.number start) refl
 call_own (Takes line) h own = own_stays line h own
+call_own (Tunes constants) h own = own
 
 own_if : (b : Bool) (one other : Judged) → IsOwn one → IsOwn other → IsOwn (cond b one other)
 own_if true one other a c = a
@@ -87,6 +93,9 @@ unfolding after_kept_line
 record_taken [] h taken = tt
 record_taken (line ∷ given) h taken = (taken.0, record_taken given (after_judged (Held line) h) taken.1)
 
+pub in_range : (constants : Tuning) (k : Keeping) → are_constants constants ≡ true → fault_of (Tuned constants) k ≡ None
+in_range constants k is = ap (λ (b : Bool). fault_unless b (Host Range)) is
+
 module _ (numbers : ℕ → ℕ) (time place : ℕ) where
   abbrev pub begins : Start → CallAt
   begins start = record { time = time; place = place; call = Begins start.opening [] }
@@ -115,6 +124,7 @@ module _ (numbers : ℕ → ℕ) (time place : ℕ) where
   call_taken (Takes line) h older same own taken rest =
       lines_taken (plain_line (handed line h) ∷ []) older
       (plain_fault (handed line h) (kept_at numbers older place) ∙ subst (λ (k : Keeping). fault_of (handed line h) k ≡ None) same (fault_none line h own taken), tt) rest
+  call_taken (Tunes constants) h older same own taken rest = lines_taken (Tuned constants ∷ []) older (in_range constants (kept_at numbers older place) taken, tt) rest
 
 -- ---- what comes was held
 
@@ -148,17 +158,17 @@ module _ (numbers : ℕ → ℕ) where
       subst (λ (s : List Step). HeldBySteps numbers s d) (sym split.1) (longer split.0 (steps_of numbers older) d w)
 
 abbrev came_by : KeptCall → List DrawopValue
-came_by (Handed line) = came_in line
+came_by (Handed line) = gained_by_line line
 came_by (Begins o given) = []
 
 abbrev all_came : List KeptLine → List DrawopValue
 all_came [] = []
-all_came (line ∷ lines) = came_in line ++ all_came lines
+all_came (line ∷ lines) = gained_by_line line ++ all_came lines
 
 not_handed : (start o : Opening) (given : List Datagram) (line : KeptLine) → Begins o given ≡ Handed line → ⊥
 not_handed start o given line e = cc
 
-recalled_came : (now : ℕ) (line : RecordLine) → came_in (recalled now line) ≡ drawops_in line
+pub recalled_came : (now : ℕ) (line : RecordLine) → gained_by_line (recalled now line) ≡ drawops_in line
 recalled_came now (Tick past) = refl
 recalled_came now (Said d) = refl
 recalled_came now (Known d) = refl
@@ -172,7 +182,7 @@ record_came (line ∷ given) h =
     ∙ ap (λ (ds : List DrawopValue). drawops_in line ++ ds) (record_came given (after_judged (Held line) h))
 
 module _ (numbers : ℕ → ℕ) (time place : ℕ) where
-  came_held : (line : KeptLine) (older : List CallAt) → ((d : DrawopValue) → Contains (came_in line) d → HeldBySteps numbers (steps_of numbers older) d) → WereHeld numbers older (at time place line)
+  came_held : (line : KeptLine) (older : List CallAt) → ((d : DrawopValue) → Contains (gained_by_line line) d → HeldBySteps numbers (steps_of numbers older) d) → WereHeld numbers older (at time place line)
   came_held line older were = record {
     handed = λ now d e. were d (subst (λ (call : KeptCall). Contains (came_by call) d) (sym e) (Contains-here d []));
     given = λ o given d e c. absurd (not_begun line o given e);
@@ -191,8 +201,8 @@ module _ (numbers : ℕ → ℕ) (time place : ℕ) where
       → KeptDrawopsWereHeld numbers (lines_then time place lines older)
   lines_held [] older were rest = rest
   lines_held (line ∷ lines) older were rest =
-      lines_held lines (at time place line ∷ older) (λ d c. later numbers (at time place line) older d (were d (Contains-append_right (came_in line) (all_came lines) d c)))
-      (came_held line older (λ d c. were d (Contains-append_left (came_in line) (all_came lines) d c)), rest)
+      lines_held lines (at time place line ∷ older) (λ d c. later numbers (at time place line) older d (were d (Contains-append_right (gained_by_line line) (all_came lines) d c)))
+      (came_held line older (λ d c. were d (Contains-append_left (gained_by_line line) (all_came lines) d c)), rest)
 
   call_held : (call : JudgedCall) (h : Judged) (older : List CallAt) → ((d : DrawopValue) → Contains (brought_by call h) d → HeldBySteps numbers (steps_of numbers older) d)
       → KeptDrawopsWereHeld numbers older
@@ -204,6 +214,7 @@ module _ (numbers : ℕ → ℕ) (time place : ℕ) where
       (begun_held start older, rest)
   call_held (Takes line) h older were rest =
       (came_held (plain_line (handed line h)) older (λ d c. were d (subst (λ (ds : List DrawopValue). Contains ds d) (plain_came (handed line h)) c)), rest)
+  call_held (Tunes constants) h older were rest = (came_held (Tuned constants) older were, rest)
 
   -- ---- members know their own numbers
 
@@ -244,6 +255,7 @@ module _ (numbers : ℕ → ℕ) (time place : ℕ) where
       lines_know (expanded (map Held given) first) (begins numbers time place start ∷ older) (record_draws given first) (knows_for (Begins start.opening []) older tt, rest)
   call_know (Takes line) h older knows rest =
       (knows_for (Handed (plain_line (handed line h))) older (line_know line h older knows), rest)
+  call_know (Tunes constants) h older knows rest = (knows_for (Handed (Tuned constants)) older tt, rest)
 
 module _ (numbers : ℕ → ℕ) where
   pub knows_kept : (older : List JudgedCallAt) (place : ℕ) (page : PageId) → KnowsItsOwn numbers older place page → KeptKnowsItsOwn numbers (kept_calls numbers older) place page

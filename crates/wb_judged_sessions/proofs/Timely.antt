@@ -6,7 +6,9 @@ use Rattle.std.proofs.lemmas.List.Elements.{Contains-append_right}
 use Rattle.wb_names.proofs.Listings.{Contains-cases, Contains-here, Contains-none}
 use Rattle.wb_codec.specs.declared.datagram.Datagram.{Datagram}
 use Rattle.wb_judge.specs.declared.verdict.Why.{Why}
-use Rattle.wb_progress.specs.Turns.{IsNowAt, Terms}
+use Rattle.wb_recovery.specs.declared.tuning.Tuning.{Tuning}
+use Rattle.wb_progress.specs.Bounds.{IsUnder}
+use Rattle.wb_progress.specs.Turns.{IsNowAt, Terms, longest}
 use Rattle.wb_member.specs.Opened.{present}
 use Rattle.wb_keeping.specs.Laws.{Added, Came, KeptLine, Ticked, Tuned, doing_of}
 use Rattle.wb_keeping.specs.Performing.{after_doing}
@@ -23,9 +25,9 @@ use Rattle.wb_laws_kept.specs.Sessions.{Begins, CallAt, Handed}
 use Rattle.wb_kept_progress.specs.Since.{AreFittingSince as AreKeptFitting, AreInOrder as AreKeptInOrder, IsFitting, IsFittingSince as IsKeptFitting, called_at as kept_called_at}
 use Rattle.wb_kept_progress.proofs.Moments.{moment_of as kept_moment, told_itself}
 use Rattle.wb_kept_progress.proofs.StillCalls.{IsTuning, call_now}
-use Rattle.wb_judged_sessions.specs.Sessions.{JudgedCall, JudgedCallAt, Start, Starts, Takes, judged_at, kept_calls, kept_then, lines_then, plain_line, started}
+use Rattle.wb_judged_sessions.specs.Sessions.{JudgedCall, JudgedCallAt, Start, Starts, Takes, Tunes, judged_at, kept_calls, kept_then, lines_then, plain_line, started}
 use Rattle.wb_judged_sessions.specs.Terms.{AreTaken, IsLineTaken, IsTaken}
-use Rattle.wb_judged_sessions.specs.Timely.{AreFittingSince, AreInOrder, IsFittingSince, called_at}
+use Rattle.wb_judged_sessions.specs.Timely.{AreFittingSince, AreInOrder, IsFittingSince, IsNoStart, called_at}
 use Rattle.wb_judged_sessions.proofs.Kept.{at}
 use Rattle.wb_judged_sessions.proofs.Records.{number_at}
 use Rattle.wb_judged_sessions.proofs.Terms.{begins}
@@ -40,6 +42,7 @@ module _ (time place : ℕ) where
   called_call : (numbers : ℕ → ℕ) (call : JudgedCall) (h : Judged) (older : List CallAt) → kept_called_at (kept_then time place call h older) ≡ time
   called_call numbers (Starts start given) h older = called_lines (expanded (map Held given) (started h.kept.host.is.number start)) (begins numbers time place start ∷ older) refl
   called_call numbers (Takes line) h older = refl
+  called_call numbers (Tunes constants) h older = refl
 
   order_lines : (lines : List KeptLine) (older : List CallAt) → kept_called_at older ≤ time → AreKeptInOrder older → AreKeptInOrder (lines_then time place lines older)
   order_lines [] older le order = order
@@ -49,6 +52,7 @@ module _ (time place : ℕ) where
   order_call numbers (Starts start given) h older le order =
       order_lines (expanded (map Held given) (started h.kept.host.is.number start)) (begins numbers time place start ∷ older) (omega arith) (le, order)
   order_call numbers (Takes line) h older le order = (le, order)
+  order_call numbers (Tunes constants) h older le order = (le, order)
 
 module _ (numbers : ℕ → ℕ) where
   pub called_kept : (calls : List JudgedCallAt) → kept_called_at (kept_calls numbers calls) ≡ called_at calls
@@ -115,6 +119,9 @@ module _ (terms : Terms) (time place : ℕ) where
   fits_line (UserDrew now page op) h is = record { says = is; tuned = λ constants e. absurd cc }
   fits_line (Held line) h is = fits_plain (recalled (present h.kept.host) line) (fits_recalled (present h.kept.host) line is)
 
+  fits_tuned : (constants : Tuning) → IsUnder (longest terms) constants → IsFitting terms time place (Tuned constants)
+  fits_tuned constants is = record { says = tt; tuned = λ others e. let same : constants ≡ others = cc in subst (λ (t : Tuning). IsUnder (longest terms) t) same is }
+
   abbrev Fit : List KeptLine → Type 0
   Fit [] = Unit {0}
   Fit (line ∷ lines) = IsFitting terms time place line × Fit lines
@@ -162,6 +169,10 @@ module _ (terms : Terms) (number i time place : ℕ) where
   fit_call : (numbers : ℕ → ℕ) (call : JudgedCall) (h : Judged) → (nat_eq place i ≡ true → h.kept.host.is.number ≡ number) → (older : List CallAt) (before : Type 0)
       → IsFittingSince terms number i (nat_eq place i) time call h before → (before → AreKeptFitting terms number i older) → AreKeptFitting terms number i (kept_then time place call h older)
   fit_call numbers (Takes line) h own older before is rest = fit_takes (nat_eq place i) refl line h older before is rest
+  fit_call numbers (Tunes constants) h own older before is rest = by (nat_eq place i) refl is where
+    by : (b : Bool) → nat_eq place i ≡ b → IsFittingSince terms number i b time (Tunes constants) h before → AreKeptFitting terms number i (lines_then time place (Tuned constants ∷ []) older)
+    by true here is = fit_there here (Tuned constants ∷ []) older (fits_tuned terms time i constants is.0, tt) (rest is.1)
+    by false other is = fit_elsewhere other (Tuned constants ∷ []) older (rest is)
   fit_call numbers (Starts start given) h own older before is rest = by (nat_eq place i) refl is where
     by : (b : Bool) → nat_eq place i ≡ b → IsFittingSince terms number i b time (Starts start given) h before → AreKeptFitting terms number i (kept_then time place (Starts start given) h older)
     by true here is = fit_starts numbers true here start given h (own here) older before is rest
@@ -177,10 +188,13 @@ fit_kept numbers terms i (e ∷ older) is =
 
 -- ---- a call after `quiet` is one line
 
+pub taken_call : (numbers : ℕ → ℕ) (newer older : List JudgedCallAt) (e : JudgedCallAt) → AreTaken numbers (newer ++ e ∷ older) → IsTaken e.call (judged_at numbers older e.place)
+taken_call numbers [] older e taken = taken.0
+taken_call numbers (x ∷ newer) older e taken = taken_call numbers newer older e taken.1
+
 pub taken_at : (numbers : ℕ → ℕ) (newer older : List JudgedCallAt) (e : JudgedCallAt) (line : Call) → AreTaken numbers (newer ++ e ∷ older) → e.call ≡ Takes line
     → IsLineTaken line (judged_at numbers older e.place)
-taken_at numbers [] older e line taken takes = subst (λ (call : JudgedCall). IsTaken call (judged_at numbers older e.place)) takes taken.0
-taken_at numbers (x ∷ newer) older e line taken takes = taken_at numbers newer older e line taken.1 takes
+taken_at numbers newer older e line taken takes = subst (λ (call : JudgedCall). IsTaken call (judged_at numbers older e.place)) takes (taken_call numbers newer older e taken)
 
 pub order_part : (newer older : List JudgedCallAt) → AreInOrder (newer ++ older) → AreInOrder older
 order_part [] older order = order
@@ -197,31 +211,47 @@ pub takes_is : (numbers : ℕ → ℕ) (e : JudgedCallAt) (older : List JudgedCa
     → kept_calls numbers (e ∷ older) ≡ at e.time e.place (plain_line (handed line (judged_at numbers older e.place))) ∷ kept_calls numbers older
 takes_is numbers e older line takes = ap (λ (call : JudgedCall). kept_then e.time e.place call (judged_at numbers older e.place) (kept_calls numbers older)) takes
 
--- a call of a self-managing member is that of a line of a judged one
-pub record FromLine (numbers : ℕ → ℕ) (calls : List JudgedCallAt) (e : CallAt) (older : List CallAt) : Type 0 where
+-- what a self-managing member is handed by a call that is no start
+abbrev pub line_for : (call : JudgedCall) → IsNoStart call → Judged → KeptLine
+line_for (Starts start given) steady h = absurd steady
+line_for (Takes line) steady h = plain_line (handed line h)
+line_for (Tunes constants) steady h = Tuned constants
+
+pub line_is : (numbers : ℕ → ℕ) (e : JudgedCallAt) (older : List JudgedCallAt) (steady : IsNoStart e.call)
+    → kept_calls numbers (e ∷ older) ≡ at e.time e.place (line_for e.call steady (judged_at numbers older e.place)) ∷ kept_calls numbers older
+line_is numbers e older steady = by e.call steady where
+  h : Judged
+  h = judged_at numbers older e.place
+
+  by : (call : JudgedCall) (steady : IsNoStart call) → kept_then e.time e.place call h (kept_calls numbers older) ≡ at e.time e.place (line_for call steady h) ∷ kept_calls numbers older
+  by (Starts start given) steady = absurd steady
+  by (Takes line) steady = refl
+  by (Tunes constants) steady = refl
+
+-- a call of a self-managing member is that of a judged one
+pub record FromCall (numbers : ℕ → ℕ) (calls : List JudgedCallAt) (e : CallAt) (older : List CallAt) : Type 0 where
   pub later : List JudgedCallAt
   pub call : JudgedCallAt
   pub before : List JudgedCallAt
   pub split : calls ≡ later ++ call ∷ before
-  pub line : Call
-  pub takes : call.call ≡ Takes line
-  pub is : e ≡ at call.time call.place (plain_line (handed line (judged_at numbers before call.place)))
+  pub steady : IsNoStart call.call
+  pub is : e ≡ at call.time call.place (line_for call.call steady (judged_at numbers before call.place))
   pub older_is : older ≡ kept_calls numbers before
 
-one_more : (numbers : ℕ → ℕ) (calls : List JudgedCallAt) (c : JudgedCallAt) (e : CallAt) (older : List CallAt) → FromLine numbers calls e older → FromLine numbers (c ∷ calls) e older
+one_more : (numbers : ℕ → ℕ) (calls : List JudgedCallAt) (c : JudgedCallAt) (e : CallAt) (older : List CallAt) → FromCall numbers calls e older → FromCall numbers (c ∷ calls) e older
 one_more numbers calls c e older f =
-    record { later = c ∷ f.later; call = f.call; before = f.before; split = ap (λ (cs : List JudgedCallAt). c ∷ cs) f.split; line = f.line; takes = f.takes; is = f.is; older_is = f.older_is }
+    record { later = c ∷ f.later; call = f.call; before = f.before; split = ap (λ (cs : List JudgedCallAt). c ∷ cs) f.split; steady = f.steady; is = f.is; older_is = f.older_is }
 
-abbrev TakeLines : ℕ → List JudgedCallAt → Type 0
-TakeLines quiet calls = (newer older : List JudgedCallAt) (e : JudgedCallAt) → calls ≡ newer ++ e ∷ older → quiet < e.time → (line : Call) × (e.call ≡ Takes line)
+abbrev NoneStarts : ℕ → List JudgedCallAt → Type 0
+NoneStarts quiet calls = (newer older : List JudgedCallAt) (e : JudgedCallAt) → calls ≡ newer ++ e ∷ older → quiet < e.time → IsNoStart e.call
 
-pub from_line : (numbers : ℕ → ℕ) (quiet : ℕ) (calls : List JudgedCallAt) → AreInOrder calls → TakeLines quiet calls → (newer older : List CallAt) (e : CallAt)
-    → kept_calls numbers calls ≡ newer ++ e ∷ older → quiet < e.time → FromLine numbers calls e older
-from_line numbers quiet [] order alone newer older e split late =
+pub from_call : (numbers : ℕ → ℕ) (quiet : ℕ) (calls : List JudgedCallAt) → AreInOrder calls → NoneStarts quiet calls → (newer older : List CallAt) (e : CallAt)
+    → kept_calls numbers calls ≡ newer ++ e ∷ older → quiet < e.time → FromCall numbers calls e older
+from_call numbers quiet [] order alone newer older e split late =
     absurd (Contains-none e (subst (λ (cs : List CallAt). Contains cs e) (sym split) (Contains-append_right newer (e ∷ older) e (Contains-here e older))))
-from_line numbers quiet (c ∷ rest) order alone newer older e split late =
+from_call numbers quiet (c ∷ rest) order alone newer older e split late =
     by (nat_lt quiet c.time) refl
-    (λ newer split. from_line numbers quiet rest order.1 (λ newer older e split late. alone (c ∷ newer) older e (ap (λ (cs : List JudgedCallAt). c ∷ cs) split) late) newer older e split late) where
+    (λ newer split. from_call numbers quiet rest order.1 (λ newer older e split late. alone (c ∷ newer) older e (ap (λ (cs : List JudgedCallAt). c ∷ cs) split) late) newer older e split late) where
       kept : List CallAt
       kept = kept_calls numbers (c ∷ rest)
 
@@ -235,13 +265,13 @@ from_line numbers quiet (c ∷ rest) order alone newer older e split late =
           let not = ltb-false quiet c.time above in
           omega (arith, le, at_c, late, not)
 
-      with_line : (t : (line : Call) × (c.call ≡ Takes line)) → ((newer : List CallAt) → kept_calls numbers rest ≡ newer ++ e ∷ older → FromLine numbers rest e older)
-          → (newer : List CallAt) → at c.time c.place (plain_line (handed t.0 (judged_at numbers rest c.place))) ∷ kept_calls numbers rest ≡ newer ++ e ∷ older → FromLine numbers (c ∷ rest) e older
-      with_line t again [] split = record { later = []; call = c; before = rest; split = refl; line = t.0; takes = t.1; is = sym cc; older_is = sym cc }
+      with_line : (t : IsNoStart c.call) → ((newer : List CallAt) → kept_calls numbers rest ≡ newer ++ e ∷ older → FromCall numbers rest e older)
+          → (newer : List CallAt) → at c.time c.place (line_for c.call t (judged_at numbers rest c.place)) ∷ kept_calls numbers rest ≡ newer ++ e ∷ older → FromCall numbers (c ∷ rest) e older
+      with_line t again [] split = record { later = []; call = c; before = rest; split = refl; steady = t; is = sym cc; older_is = sym cc }
       with_line t again (x ∷ newer) split =
           let same : kept_calls numbers rest ≡ newer ++ e ∷ older = cc in
           one_more numbers rest c e older (again newer same)
 
-      by : (b : Bool) → nat_lt quiet c.time ≡ b → ((newer : List CallAt) → kept_calls numbers rest ≡ newer ++ e ∷ older → FromLine numbers rest e older) → FromLine numbers (c ∷ rest) e older
-      by true is again = let t = alone [] rest c refl (ltb-true _ _ is) in with_line t again newer (sym (takes_is numbers c rest t.0 t.1) ∙ split)
+      by : (b : Bool) → nat_lt quiet c.time ≡ b → ((newer : List CallAt) → kept_calls numbers rest ≡ newer ++ e ∷ older → FromCall numbers rest e older) → FromCall numbers (c ∷ rest) e older
+      by true is again = let t = alone [] rest c refl (ltb-true _ _ is) in with_line t again newer (sym (line_is numbers c rest t) ∙ split)
       by false is again = absurd (early is)

@@ -17,14 +17,15 @@ use Rattle.wb_laws_kept.proofs.Agreeing.{kept_never_clash, kept_reports_tell_agr
 use Rattle.wb_laws_kept.proofs.Honest.{kept_are_honest}
 use Rattle.wb_laws_kept.proofs.Marks.{marks_were_drawn as kept_marks_were_drawn}
 use Rattle.wb_laws_kept.proofs.Steps.{kept_is_session}
-use Rattle.wb_laws_sessions.specs.Agreement.{Agree}
+use Rattle.wb_laws_machines.specs.Agreement.{Agree}
 use Rattle.wb_laws_sessions.specs.Drawn.{AreHonest, WasDrawn as DrawnBySteps, WasHeld as HeldBySteps}
 use Rattle.wb_laws_sessions.specs.Sessions.{Step, host_at}
 use Rattle.wb_laws_sessions.proofs.Agreeing.{whole_boards_agree as members_agree}
 use Rattle.wb_laws_sessions.proofs.Drawn.{held_once as held_once_by_steps, held_was_drawn as held_drawn_by_steps, names_mean_one as names_by_steps, numbers_count as numbers_by_steps, once_held_was_drawn as once_by_steps}
 use Rattle.wb_laws_sessions.proofs.Sent.{sent_was_held}
 use Rattle.wb_judged_sessions.specs.Laws.{FiledReportsTellAgreement, HeldOnce, HeldWasDrawn, MarksWereDrawn, NamesMeanOne, NoneClashes, NumbersCount, OnceHeldWasDrawn, ReportsTellAgreement, SentWasDrawn, WholeBoardsAgree}
-use Rattle.wb_judged_sessions.specs.Sessions.{JudgedCallAt, WasDrawn, judged_at, kept_calls, plain, sent}
+use Rattle.wb_judged_sessions.specs.Sessions.{JudgedCallAt, WasDrawn, judged_at, kept_calls, sent}
+use Rattle.wb_laws_machines.specs.Maps.{plain}
 use Rattle.wb_judged_sessions.specs.Terms.{IsSession}
 use Rattle.wb_judged_sessions.proofs.Drawn.{draws_as_kept}
 use Rattle.wb_judged_sessions.proofs.Kept.{calls_split, judged_is_kept}

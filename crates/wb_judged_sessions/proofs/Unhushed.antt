@@ -14,6 +14,7 @@ use Rattle.wb_codec.specs.declared.datagram.Datagram.TheVariants.{Draw, PageStat
 use Rattle.wb_recovery.specs.Events.{timers_of}
 use Rattle.wb_recovery.specs.declared.timers.AnswerTimer.{AnswerTimer}
 use Rattle.wb_recovery.specs.declared.timers.AskTimer.{AskTimer}
+use Rattle.wb_recovery.specs.declared.tuning.Tuning.{Tuning}
 use Rattle.wb_judge.specs.Adding.{own_echo}
 use Rattle.wb_judge.specs.Judge.{is_firm}
 use Rattle.wb_judge.specs.declared.origin.Origin.{Origin}
@@ -39,7 +40,7 @@ use Rattle.wb_judging.proofs.AsKept.{sends_as_kept}
 use Rattle.wb_laws_kept.specs.Sessions.{steps_of}
 use Rattle.wb_laws_sessions.proofs.Holding.{none_held_is_asked_for}
 use Rattle.wb_laws_sessions.proofs.Sending.{one_draw}
-use Rattle.wb_judged_sessions.specs.Sessions.{JudgedCall, JudgedCallAt, Start, Starts, Takes, after_call, judged_at, kept_calls}
+use Rattle.wb_judged_sessions.specs.Sessions.{JudgedCall, JudgedCallAt, Start, Starts, Takes, Tunes, after_call, judged_at, kept_calls}
 use Rattle.wb_judged_sessions.specs.Terms.{AreTaken, IsTaken}
 use Rattle.wb_judged_sessions.specs.Unhushed.{AllAre, RepairsAreSent, ComesWhen, EndsRequest, IsFirmAt, IsToRepair, IsToRequest, OneIs, RequestsAreSent, Sends}
 use Rattle.wb_judged_sessions.proofs.FirmAnswers as answering
@@ -206,6 +207,7 @@ module _ (numbers : ℕ → ℕ) (place : ℕ) (older : List JudgedCallAt) (Is :
   }
 
   module _ (never : (start : Start) (given : List RecordLine) (h : Judged) → Is (Starts start given) h → ⊥)
+      (tunes : (constants : Tuning) (h : Judged) → Stays h → Stays (after_call (Tunes constants) h))
       (step : (newer : List JudgedCallAt) (line : Call) → let h = judged_at numbers (newer ++ older) place in Is (Takes line) h → Stays h → Ends line h ⊎ Stays (after_judged line h)) where
     called : (e : JudgedCallAt) (newer : List JudgedCallAt) (call : JudgedCall) → e.call ≡ call → e.place ≡ place
         → let h = judged_at numbers (newer ++ older) place in Is call h → Stays h → OneIs Ends numbers place (e ∷ newer) older ⊎ Stays (after_call call h)
@@ -214,6 +216,7 @@ module _ (numbers : ℕ → ℕ) (place : ℕ) (older : List JudgedCallAt) (Is :
         (λ (ends : Ends line (judged_at numbers (newer ++ older) place)). inl (record { later = []; call = e; earlier = newer; split = refl; here = here; line = line; takes = takes; is = ends }))
         (λ (on : Stays (after_judged line (judged_at numbers (newer ++ older) place))). inr on)
         (step newer line is stays)
+    called e newer (Tunes constants) takes here is stays = inr (tunes constants (judged_at numbers (newer ++ older) place) stays)
 
     pub goes_on : (newer : List JudgedCallAt) → AllAre Is numbers place newer older → Stays (judged_at numbers older place) → OneIs Ends numbers place newer older ⊎ Stays (judged_at numbers (newer ++ older) place)
     goes_on [] all is = inr is
@@ -235,6 +238,7 @@ none_at numbers calls place n =
 pub repairs_are_sent : RepairsAreSent
 repairs_are_sent numbers newer older place d a is firm =
     goes_on numbers place older (ComesWhen (IsFirmAt d.name) a.due d.name) (Sends (Draw d)) (IsToRepair d a) (λ start given h never. never)
+    (λ constants h stays. record { held = stays.held; timer = stays.timer; ahead = stays.ahead })
     (λ newer line comes stays.
     let h = judged_at numbers (newer ++ older) place in
     call_answers d a line h comes (held_once numbers (newer ++ older) place) (none_at numbers (newer ++ older) place d.name (holds_from h.kept.host.is.held d.name d stays.held refl)) stays)
@@ -250,6 +254,7 @@ and_taken Is numbers place (e ∷ newer) older taken all =
 pub requests_are_sent : RequestsAreSent
 requests_are_sent numbers newer older place n x taken is firm =
     goes_on numbers place older (λ call h. IsTaken call h × ComesWhen (IsFirmAt n) x.due n call h) (EndsRequest n x) (IsToRequest n x) (λ start given h both. both.1)
+    (λ constants h stays. record { lacks = stays.lacks; timer = stays.timer; ahead = stays.ahead })
     (λ newer line both stays.
     let h = judged_at numbers (newer ++ older) place in
     call_asks n x line h (fault_none line h (own_at numbers (newer ++ older) place) both.0) both.1 stays)

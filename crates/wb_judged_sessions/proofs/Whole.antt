@@ -18,7 +18,7 @@ use Rattle.wb_judged_sessions.specs.Terms.{IsSession}
 use Rattle.wb_judged_sessions.specs.Timely.{IsTimely, JudgedAgree, JudgedBecomeWhole, JudgedBecomeWholeByRounds, JudgedBecomeWholeInCrowds, JudgedFillHoles, called_at}
 use Rattle.wb_judged_sessions.proofs.InTime.{judged_is_timely}
 use Rattle.wb_judged_sessions.proofs.Kept.{calls_split, judged_is_kept}
-use Rattle.wb_judged_sessions.proofs.Timely.{called_kept, takes_is}
+use Rattle.wb_judged_sessions.proofs.Timely.{called_kept, line_is}
 use Rattle.wb_judged_sessions.proofs.True.{held_was_drawn, names_mean_one}
 
 module _ (numbers : ℕ → ℕ) (calls newer later : List JudgedCallAt) (split : calls ≡ newer ++ later) where
@@ -84,7 +84,7 @@ called_since : (numbers : ℕ → ℕ) (terms : Terms) (calls : List JudgedCallA
 called_since numbers terms [] s late = refl
 called_since numbers terms (e ∷ older) s late =
     let t = (s.alone [] older e refl late).1 in
-    ap (λ (cs : List CallAt). timed_called_at (since numbers cs)) (takes_is numbers e older t.0 t.1)
+    ap (λ (cs : List CallAt). timed_called_at (since numbers cs)) (line_is numbers e older t)
 
 pub judged_agree : JudgedAgree
 judged_agree numbers terms calls sizes wait most i j s session within soon waits lack short late live_i live_j =

@@ -7,6 +7,7 @@ use Rattle.wb_codec.specs.declared.datagram.Datagram.{Datagram}
 use Rattle.wb_codec.specs.declared.datagram.Datagram.TheVariants.{AskPages, Draw, PageState, Request, Session}
 use Rattle.wb_keeper.specs.Keeper.{sender_of, senders_of}
 use Rattle.wb_keeper.specs.declared.keeper.Heard.{Heard}
+use Rattle.wb_judge.specs.Answers.{by_their_clock}
 use Rattle.wb_judge.specs.Judge.{Judge, is_forged}
 use Rattle.wb_judge.specs.Judging.{is_admitted}
 use Rattle.wb_judge.specs.Laws.{is_answer, speaker_in}
@@ -28,7 +29,7 @@ use Rattle.wb_judging.specs.Performing.{after_judged, events_of}
 use Rattle.wb_laws_kept.specs.Listening.{heard_of}
 use Rattle.wb_judged_sessions.specs.Knowing.{HasRoom, IsKnownSince, LeavesKnown}
 use Rattle.wb_judged_sessions.specs.Laws.{HasNotStarted}
-use Rattle.wb_judged_sessions.specs.Sessions.{JudgedCall, JudgedCallAt, Starts, Takes, judged_at}
+use Rattle.wb_judged_sessions.specs.Sessions.{JudgedCall, JudgedCallAt, Starts, Takes, Tunes, judged_at}
 use Rattle.wb_judged_sessions.specs.Terms.{AreTaken}
 
 -- ---- one member is answered
@@ -69,6 +70,7 @@ taken_in number (Tuned constants) k before = before
 abbrev pub taken_by : ℕ → JudgedCall → Judged → Option Heard → Option Heard
 taken_by number (Starts start given) h before = None
 taken_by number (Takes line) h before = taken_in number (handed line h) h.kept before
+taken_by number (Tunes constants) h before = before
 
 -- the last report under a number that the member at a place took in since its program started
 abbrev pub last_taken : (ℕ → ℕ) → (number place : ℕ) → List JudgedCallAt → Option Heard
@@ -109,11 +111,11 @@ pub record IsSentAfter (HasTaken : List JudgedCallAt → Type 0) (numbers : ℕ 
   pub after : HasTaken (call ∷ earlier)
 
 -- We reported at a moment, which our judge still remembers. The other heard that, and reported at a moment of its own clock, which comes to us no later
--- than 256 seconds after we reported. Since then our clock told no less than the clock of the other did between the two.
+-- than 256 seconds after we reported. The clock of the other told no more between the two than ours since then, and one part in 4,096 of it.
 pub record IsInTime (heard : Heard) (moment now : ℕ) (j : Judge) : Type 0 where
   pub own : Contains j.own heard.sent
   pub fresh : now ≤ heard.sent + FRESH
-  pub clocks : moment + heard.sent ≤ now + heard.at
+  pub clocks : moment - heard.at ≤ by_their_clock (now - heard.sent)
 
 -- Our judge remembers the moment of a report for 256 seconds, or until our program starts anew.
 abbrev pub ReportsAreRemembered : Type 0
@@ -154,6 +156,7 @@ heard_by_line o number (Held line) h before = before
 abbrev pub heard_by_call : Origin → ℕ → JudgedCall → Judged → ℕ → ℕ
 heard_by_call o number (Starts start given) h before = before
 heard_by_call o number (Takes line) h before = heard_by_line o number line h before
+heard_by_call o number (Tunes constants) h before = before
 
 -- at a place, by newer calls over older ones, after which it was known since a moment
 abbrev pub heard_at : (ℕ → ℕ) → Origin → (number place since : ℕ) → (newer older : List JudgedCallAt) → ℕ
@@ -166,6 +169,7 @@ heard_at numbers o number place since (e ∷ newer) older =
 abbrev pub IsLeftKnown : Origin → (number at : ℕ) → JudgedCall → Judged → Type 0
 IsLeftKnown o number at (Starts start given) h = ⊥
 IsLeftKnown o number at (Takes line) h = HasRoom h.judge × LeavesKnown o number at line h
+IsLeftKnown o number at (Tunes constants) h = Unit {0}
 
 -- So it is with each of the newer calls at the place. What comes there comes within 192 seconds after the last report of that number, whoever sends it.
 abbrev pub AreLeftKnown : (ℕ → ℕ) → Origin → (number place since : ℕ) → (newer older : List JudgedCallAt) → Type 0

@@ -12,7 +12,7 @@ use Rattle.wb_judging.specs.declared.call.Call.TheVariants.{Held, Passed}
 use Rattle.wb_judging.specs.Laws.{drawops_in, drawops_of}
 use Rattle.wb_judging.specs.News.{is_day}
 use Rattle.wb_judging.specs.declared.record.RecordLine.{RecordLine}
-use Rattle.wb_judged_sessions.specs.Sessions.{Holds, JudgedCall, JudgedCallAt, Starts, Takes, after_call, drawn_at, drawn_by, judged_at}
+use Rattle.wb_judged_sessions.specs.Sessions.{Holds, JudgedCall, JudgedCallAt, Starts, Takes, Tunes, after_call, drawn_at, drawn_by, judged_at}
 use Rattle.wb_judged_sessions.specs.Terms.{AreTaken, KeepFiles, file_at}
 
 -- ---- the time of day
@@ -38,6 +38,7 @@ abbrev pub latest_before : JudgedCall → List RecordLine → ℕ → ℕ
 latest_before (Starts start given) [] latest = day_of_record (drawops_of given)
 latest_before (Starts start given) (line ∷ file) latest = latest
 latest_before (Takes line) file latest = max latest (day_of_record (recalled_by line))
+latest_before (Tunes constants) file latest = latest
 
 -- and after it
 abbrev pub latest_after : JudgedCall → List RecordLine → Judged → ℕ → ℕ
@@ -61,6 +62,7 @@ is_day_told line = false
 abbrev pub tells_day : JudgedCall → Bool
 tells_day (Starts start given) = true
 tells_day (Takes line) = is_day_told line
+tells_day (Tunes constants) = false
 
 -- Whenever a driver does, the time of day is then less than a day, less 65,535 microseconds, before
 -- the latest one. Drawings of a page that come faster than the clock goes are a microsecond apart,

@@ -45,7 +45,7 @@ moment_by terms time place = time - (terms.lag place + terms.drift)
 
 -- At `quiet` each live member knows each other one at its origin, where it was heard at the time `heard` or later. From then on nobody answers one of them
 -- under the number of another from elsewhere, none is told that another is gone, and each judge has room. A report that is sent after `quiet` comes so soon
--- that none was silent for 192 seconds until then. Whoever else is there may send whatever he likes.
+-- that none was silent for 192 seconds until then. Others may send whatever the judges drop.
 pub record KnowEachOther (numbers : ℕ → ℕ) (origins : ℕ → ℕ → Origin) (terms : Terms) (heard : ℕ) (calls : List JudgedCallAt) : Type 0 where
   pub before : heard ≤ terms.quiet
   pub lately : terms.quiet + LONGEST_PAUSE + terms.late + terms.delivery + terms.drift ≤ heard + PATIENCE

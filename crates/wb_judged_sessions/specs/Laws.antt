@@ -20,9 +20,11 @@ use Rattle.wb_judging.specs.declared.record.RecordLine.{RecordLine}
 use Rattle.wb_laws_kept.specs.Listening.{IsHeardWhole, TellsMark}
 use Rattle.wb_laws_kept.specs.Restarts.{KnowTheirOwn as KeptKnowTheirOwn}
 use Rattle.wb_laws_kept.specs.Sessions.{AreTaken as AreKeptTaken, DrawopsWereHeld as KeptDrawopsWereHeld, steps_of}
-use Rattle.wb_laws_sessions.specs.Agreement.{Agree}
-use Rattle.wb_laws_sessions.specs.Sessions.{AreApart, sent as sent_by_steps}
-use Rattle.wb_judged_sessions.specs.Sessions.{Holds, JudgedCallAt, Start, Starts, Takes, WasDrawn, WasHeld, drawn_at, judged_at, kept_calls, plain, sent}
+use Rattle.wb_laws_machines.specs.Agreement.{Agree}
+use Rattle.wb_laws_sessions.specs.Sessions.{sent as sent_by_steps}
+use Rattle.wb_laws_machines.specs.Honest.{AreApart}
+use Rattle.wb_judged_sessions.specs.Sessions.{Holds, JudgedCallAt, Start, Starts, Takes, WasDrawn, WasHeld, drawn_at, judged_at, kept_calls, sent}
+use Rattle.wb_laws_machines.specs.Maps.{plain}
 use Rattle.wb_judged_sessions.specs.Terms.{AreTaken, DrawopsWereHeld, IsSession, KeepFiles, KnowTheirOwn, RecordsAreWhole, file_at}
 
 -- ---- a session of self-managing members

@@ -1,5 +1,6 @@
 pub mod Sessions
 pub mod Terms
+pub mod Judged
 pub mod Laws
 pub mod Days
 pub mod Examples

@@ -7,9 +7,10 @@ use Rattle.wb_codec.specs.declared.datagram.Datagram.{Datagram}
 use Rattle.wb_codec.specs.declared.datagram.Datagram.TheVariants.{AskPages, Draw, PageState, Request, Session}
 use Rattle.wb_judge.specs.Judge.{opened as opened_judge}
 use Rattle.wb_policy.specs.Policy.{begun}
+use Rattle.wb_recovery.specs.declared.tuning.Tuning.{Tuning}
 use Rattle.wb_keeping.specs.Kept.{came}
-use Rattle.wb_keeping.specs.Laws.{Added, Came, KeptLine, Ticked, Tuned}
-use Rattle.wb_keeping.specs.Performing.{Keeping, sees}
+use Rattle.wb_keeping.specs.Laws.{Added, Came, KeptLine, Ticked, Tuned, doing_of}
+use Rattle.wb_keeping.specs.Performing.{Keeping, after_doing, sees}
 use Rattle.wb_judging.specs.Handing.{handed}
 use Rattle.wb_judging.specs.Judged.{Judged}
 use Rattle.wb_judging.specs.declared.call.Call.{Call}
@@ -22,7 +23,7 @@ use Rattle.wb_judging.specs.declared.record.RecordLine.{RecordLine}
 use Rattle.wb_laws_kept.specs.Openings.{Opening, opened_host}
 use Rattle.wb_laws_kept.specs.Sessions.{Begins, CallAt, Handed, kept_at, steps_of}
 use Rattle.wb_laws_sessions.specs.Drawn.{drawn_at as drawn_by_steps}
-use Rattle.wb_laws_sessions.specs.Sessions.{unopened}
+use Rattle.wb_laws_sessions.specs.Members.{unopened}
 
 -- ---- members and their calls
 
@@ -57,10 +58,12 @@ unstarted number = record {
 }
 
 -- A program starts (`board`, `judge`) and is handed its record (`held`), or it takes a line: `came`
--- from an origin that its driver tells, `tick`, `add`, `wall`, `gone`, or once more `held`.
+-- from an origin that its driver tells, `tick`, `add`, `wall`, `gone`, or once more `held`. Or its
+-- driver sets the constants of the timers (`tuning`), of which the judge hears nothing.
 pub data JudgedCall : Type 0 where
   Starts : (start : Start) (given : List RecordLine) → JudgedCall
   Takes : (line : Call) → JudgedCall
+  Tunes : (constants : Tuning) → JudgedCall
 
 -- the member at a place is called at a time
 pub record JudgedCallAt : Type 0 where
@@ -72,6 +75,7 @@ pub record JudgedCallAt : Type 0 where
 abbrev pub after_call : JudgedCall → Judged → Judged
 after_call (Starts start given) h = after_all (map Held given) (started h.kept.host.is.number start)
 after_call (Takes line) h = after_judged line h
+after_call (Tunes constants) h = record h { kept = after_doing (doing_of (Tuned constants)) h.kept }
 
 -- the member at a place after some calls, of which the newest is the first
 abbrev pub judged_at : (ℕ → ℕ) → List JudgedCallAt → ℕ → Judged
@@ -92,6 +96,7 @@ drawn_by_line (Held line) h = []
 abbrev pub drawn_by : JudgedCall → Judged → List DrawopValue
 drawn_by (Starts start given) h = []
 drawn_by (Takes line) h = drawn_by_line line h
+drawn_by (Tunes constants) h = []
 
 -- all that the member at a place drew, by all runs of its program, the newest first
 abbrev pub drawn_at : (ℕ → ℕ) → List JudgedCallAt → ℕ → List DrawopValue
@@ -125,6 +130,7 @@ sent_by_lines (line ∷ lines) h = sends_in (events_of line h) ++ sent_by_lines 
 abbrev pub sent_by : JudgedCall → Judged → List Datagram
 sent_by (Starts start given) h = sent_by_lines (map Held given) (started h.kept.host.is.number start)
 sent_by (Takes line) h = sends_in (events_of line h)
+sent_by (Tunes constants) h = []
 
 -- all that anyone sent
 abbrev pub sent : (ℕ → ℕ) → List JudgedCallAt → List Datagram
@@ -162,6 +168,7 @@ kept_then time place (Starts start given) h older =
     lines_then time place (expanded (map Held given) (started h.kept.host.is.number start))
     (record { time = time; place = place; call = Begins start.opening [] } ∷ older)
 kept_then time place (Takes line) h older = lines_then time place (plain_line (handed line h) ∷ []) older
+kept_then time place (Tunes constants) h older = lines_then time place (Tuned constants ∷ []) older
 
 abbrev pub kept_calls : (ℕ → ℕ) → List JudgedCallAt → List CallAt
 kept_calls numbers [] = []

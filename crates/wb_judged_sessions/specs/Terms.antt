@@ -1,11 +1,11 @@
 -- What is asked of a session of judged members, and of the records of their programs.
-use Rattle.std.specs.Prelude.{◌≡◌, ◌⊎◌, ℕ, ◌≤◌, List, [], ◌∷◌, ◌++◌, Contains, None, map, nat_eq, option_to_list, if◌then◌else◌}
+use Rattle.std.specs.Prelude.{◌≡◌, ◌⊎◌, ℕ, ◌≤◌, true, List, [], ◌∷◌, ◌++◌, Contains, None, map, nat_eq, if◌then◌else◌}
 use Rattle.wb_names.specs.Arrivals.{history_after}
 use Rattle.wb_names.specs.Values.{DrawopValue}
 use Rattle.wb_names.specs.declared.name.PageId.{PageId}
 use Rattle.wb_names.specs.declared.parts.Op.{Op}
+use Rattle.wb_recovery.specs.Timing.{are_constants}
 use Rattle.wb_member.specs.Opened.{last_number, present}
-use Rattle.wb_keeping.specs.Laws.{Added, Came, KeptLine, Ticked, Tuned}
 use Rattle.wb_judging.specs.Handing.{handed}
 use Rattle.wb_judging.specs.Judged.{Judged}
 use Rattle.wb_judging.specs.declared.call.Call.{Call}
@@ -15,14 +15,15 @@ use Rattle.wb_judging.specs.Performing.{after_judged}
 use Rattle.wb_judging.specs.Refusing.{draw_fault, held_fault}
 use Rattle.wb_judging.specs.declared.record.RecordLine.{RecordLine}
 use Rattle.wb_laws_kept.specs.Openings.{IsOpening}
-use Rattle.wb_laws_kept.specs.Restarts.{drawop_in}
-use Rattle.wb_laws_sessions.specs.Sessions.{AreApart}
-use Rattle.wb_judged_sessions.specs.Sessions.{JudgedCall, JudgedCallAt, Start, Starts, Takes, WasHeld, drawn_at, judged_at, started}
+use Rattle.wb_laws_kept.specs.Kept.{gained_by_line}
+use Rattle.wb_laws_machines.specs.Honest.{AreApart}
+use Rattle.wb_judged_sessions.specs.Sessions.{JudgedCall, JudgedCallAt, Start, Starts, Takes, Tunes, WasHeld, drawn_at, judged_at, started}
 
 -- ---- no line is refused
 
--- Time does not go back; the user draws if nobody has the number too and a cell is left; and of the
--- record no line has a number of ours that we would never reach. Nothing else is ever refused.
+-- Time does not go back; the user draws if nobody has the number too and a cell is left; of the
+-- record no line has a number of ours that we would never reach; and constants are in their ranges.
+-- Nothing else is ever refused.
 abbrev pub IsLineTaken : Call → Judged → Type 0
 IsLineTaken (CameFrom now o v) h = present h.kept.host ≤ now
 IsLineTaken (Passed now news) h = present h.kept.host ≤ now
@@ -37,6 +38,7 @@ abbrev pub IsTaken : JudgedCall → Judged → Type 0
 IsTaken (Starts start given) h =
     IsOpening start.opening × AreLinesTaken (map Held given) (started h.kept.host.is.number start)
 IsTaken (Takes line) h = IsLineTaken line h
+IsTaken (Tunes constants) h = are_constants constants ≡ true
 
 abbrev pub AreTaken : (ℕ → ℕ) → List JudgedCallAt → Type 0
 AreTaken numbers [] = Unit {0}
@@ -46,15 +48,10 @@ AreTaken numbers (e ∷ older) =
 -- ---- what comes was held
 
 -- the drawops that a call hands in: of the record, or one that came and that the judge lets in
-abbrev pub came_in : KeptLine → List DrawopValue
-came_in (Came now v) = option_to_list (drawop_in v)
-came_in (Ticked now) = []
-came_in (Added now page time op) = []
-came_in (Tuned constants) = []
-
 abbrev pub brought_by : JudgedCall → Judged → List DrawopValue
 brought_by (Starts start given) h = drawops_of given
-brought_by (Takes line) h = came_in (handed line h)
+brought_by (Takes line) h = gained_by_line (handed line h)
+brought_by (Tunes constants) h = []
 
 -- Some member held each of them before: members send, hand on and record only what they hold. What
 -- the judge drops may be anything, and so may reports, requests and questions, from whatever origin.
@@ -112,6 +109,7 @@ RecordsAreWhole numbers (e ∷ older) =
 abbrev pub file_after : JudgedCall → Judged → List RecordLine → List RecordLine
 file_after (Starts start given) h file = given
 file_after (Takes line) h file = file ++ record_of line h
+file_after (Tunes constants) h file = file
 
 abbrev pub file_at : (ℕ → ℕ) → List JudgedCallAt → ℕ → List RecordLine
 file_at numbers [] i = []

@@ -1,5 +1,5 @@
 -- By when all of a session has come to judged members, if from some time on nobody draws or starts, and nothing is lost.
-use Rattle.std.specs.Prelude.{◌≡◌, ◌≢◌, ℕ, ◌+◌, ◌<◌, ◌≤◌, ◌*◌, Bool, true, false, List, [], ◌∷◌, ◌++◌, Contains, nat_eq}
+use Rattle.std.specs.Prelude.{◌≡◌, ◌≢◌, ◌⊎◌, ℕ, ◌+◌, ◌<◌, ◌≤◌, ◌*◌, Bool, true, false, List, [], ◌∷◌, ◌++◌, Contains, nat_eq}
 use Rattle.wb_names.specs.Values.{NameValue}
 use Rattle.wb_names.specs.declared.name.PageId.{PageId}
 use Rattle.wb_names.specs.declared.parts.Op.{Op}
@@ -22,14 +22,14 @@ use Rattle.wb_judging.specs.Members.{IsOfMember}
 use Rattle.wb_judging.specs.Performing.{events_of}
 use Rattle.wb_judging.specs.declared.record.RecordLine.{RecordLine}
 use Rattle.wb_laws_kept.specs.Openings.{opened_host}
-use Rattle.wb_laws_sessions.specs.Sessions.{AreApart}
+use Rattle.wb_laws_machines.specs.Honest.{AreApart}
 use Rattle.wb_kept_progress.specs.Agreement.{LookAlike}
 use Rattle.wb_kept_progress.specs.Crowded.{crowded_by, spent_in}
 use Rattle.wb_kept_progress.specs.Filling.{OnlyHolesAreLacked, filled_by}
 use Rattle.wb_kept_progress.specs.Rounds.{OneLacksAtMost, PlacesAreFilled, rounds_by}
-use Rattle.wb_kept_progress.specs.Since.{IsTimelyWithStarts, hosts_of, since}
+use Rattle.wb_kept_progress.specs.Since.{GoByShortSince, IsTimelyWithStarts, hosts_of, since}
 use Rattle.wb_kept_progress.specs.Whole.{AreSoon, AreWithin, HolesAreHeld, IsHeldBySome, LackAtMost, NewAreKept, ReportWithin, Sizes, WaitAtMost, minute, request_span, whole_by}
-use Rattle.wb_judged_sessions.specs.Sessions.{JudgedCall, JudgedCallAt, Starts, Takes, judged_at, kept_calls}
+use Rattle.wb_judged_sessions.specs.Sessions.{JudgedCall, JudgedCallAt, Starts, Takes, Tunes, judged_at, kept_calls}
 use Rattle.wb_judged_sessions.specs.Terms.{AreTaken, IsSession}
 
 -- ---- what they keep to
@@ -44,12 +44,19 @@ AreInOrder [] = Unit {0}
 AreInOrder (e ∷ older) = (called_at older ≤ e.time) × AreInOrder older
 
 -- The last start was at `quiet` or before, at a moment that the clock may tell then, and with such constants. Each line since then says a moment of
--- its time.
+-- its time, and constants that are set have no longer waits than the terms say.
 abbrev pub IsFittingSince : Terms → ℕ → ℕ → Bool → ℕ → JudgedCall → Judged → Type 0 → Type 0
 IsFittingSince terms number place false time call h before = before
 IsFittingSince terms number place true time (Starts start given) h before =
     (time ≤ terms.quiet) × IsNowAt terms time place (present (opened_host number start.opening)) × IsUnder (longest terms) start.opening.constants
 IsFittingSince terms number place true time (Takes line) h before = IsNowAt terms time place (moment_of line h) × before
+IsFittingSince terms number place true time (Tunes constants) h before = IsUnder (longest terms) constants × before
+
+-- The program does not start by a call.
+abbrev pub IsNoStart : JudgedCall → Type 0
+IsNoStart (Starts start given) = ⊥
+IsNoStart (Takes line) = Unit {0}
+IsNoStart (Tunes constants) = Unit {0}
 
 abbrev pub AreFittingSince : Terms → (ℕ → ℕ) → ℕ → List JudgedCallAt → Type 0
 AreFittingSince terms numbers place [] = ⊥
@@ -90,9 +97,9 @@ pub record IsTimelyBy (Arrived : (newer base : List JudgedCallAt) (i j by : ℕ)
   pub taken : AreTaken numbers calls
   pub order : AreInOrder calls
   pub covered : terms.drift ≤ terms.late
-  pub far : MOST_DELAY ≤ terms.far
+  pub delays : (MOST_DELAY ≤ terms.far) ⊎ GoByShortSince numbers terms (kept_calls numbers calls)
   pub fitting : (i : ℕ) → Contains terms.live i → AreFittingSince terms numbers i calls
-  pub alone : (newer older : List JudgedCallAt) (e : JudgedCallAt) → calls ≡ newer ++ e ∷ older → terms.quiet < e.time → Contains terms.live e.place × ((line : Call) × (e.call ≡ Takes line))
+  pub alone : (newer older : List JudgedCallAt) (e : JudgedCallAt) → calls ≡ newer ++ e ∷ older → terms.quiet < e.time → Contains terms.live e.place × IsNoStart e.call
   pub drawn : (newer older : List JudgedCallAt) (e : JudgedCallAt) (now : ℕ) (page : PageId) (op : Op) → calls ≡ newer ++ e ∷ older → terms.quiet < e.time → e.call ≢ Takes (UserDrew now page op)
   pub recalled : (newer older : List JudgedCallAt) (e : JudgedCallAt) (line : RecordLine) → calls ≡ newer ++ e ∷ older → terms.quiet < e.time → e.call ≢ Takes (Held line)
   pub soon : (newer older : List JudgedCallAt) (e : JudgedCallAt) (i : ℕ) → calls ≡ newer ++ e ∷ older → Contains terms.live i → terms.quiet < e.time

@@ -26,7 +26,7 @@ use Rattle.wb_judging.specs.declared.call.Call.{Call}
 use Rattle.wb_judging.specs.declared.call.Call.TheVariants.{CameFrom, Held, Passed, UserDrew}
 use Rattle.wb_judging.specs.Laws.{drawops_in, sends_in}
 use Rattle.wb_judging.specs.Performing.{after_judged, events_of}
-use Rattle.wb_judged_sessions.specs.Sessions.{JudgedCall, JudgedCallAt, Starts, Takes, judged_at}
+use Rattle.wb_judged_sessions.specs.Sessions.{JudgedCall, JudgedCallAt, Starts, Takes, Tunes, judged_at}
 use Rattle.wb_judged_sessions.specs.Terms.{AreTaken}
 
 -- ---- calls of one member
@@ -54,6 +54,7 @@ ComesWhen When until name (Takes (CameFrom now o v)) h = now < until → When no
 ComesWhen When until name (Takes (Passed now news)) h = Unit {0}
 ComesWhen When until name (Takes (UserDrew now page op)) h = Unit {0}
 ComesWhen When until name (Takes (Held line)) h = All (λ d. same_name d.name name ≡ false) (drawops_in line)
+ComesWhen When until name (Tunes constants) h = Unit {0}
 
 -- The name is firm then.
 abbrev pub IsFirmAt : NameValue → ℕ → Judged → Type 0

@@ -3,6 +3,9 @@
 
 ghost use Rattle.std.specs.Prelude.{◌≡◌};
 ghost use Rattle.wb_judge.specs.declared.limits.TheConstants.{FETCH_AGAIN, FETCH_PAUSE, FORGED_ABOVE, LACKING, NEW_AHEAD, NEW_PAUSE};
+ghost use Rattle.wb_laws_machines.specs.Maps.{IsMap};
+ghost use Rattle.wb_laws_kept.specs.Kept.{kept};
+ghost use Rattle.wb_judged_sessions.specs.Judged.{judged, judged_map};
 ghost use Rattle.wb_judged_sessions.specs.Answering.{AnswersAreHandedIn, AnswersMakeKnown, FewAreEchoed, KnownAreHandedIn, KnownGoOn, LastTakenIsEchoed, ReportsAreRemembered, TheyComeToKnow};
 ghost use Rattle.wb_judged_sessions.specs.Examples.{IsShared};
 ghost use Rattle.wb_judged_sessions.specs.Days.{HeldIsNear, OursAreInOrder, OursLieAbove};
@@ -23,6 +26,7 @@ ghost use Rattle.wb_judged_sessions.specs.Unhushed.{FirmForItsTurn, RepairsAreSe
 /// judges dropped. Each judged member is the self-managing one at its place, and draws the same. It
 /// sends the same, but for an echo under its own number, for which no member does anything.
 pub fn judged_sessions_are_kept()
+    ensures map { IsMap judged kept judged_map }
     ensures same { JudgedIsKept }
     ensures drawn { DrawsAsKept }
     ensures sent { SendsAsKept }
@@ -98,9 +102,9 @@ pub fn judged_sessions_become_whole()
     ensures agree { JudgedAgree }
 {}
 
-/// Members that know each other once nothing is lost any more go on to do so, whoever else is there:
-/// each reports within 96 seconds, and what came from it stands for 192. So of what one sends, all
-/// comes to each other one as a member's, and the session becomes whole.
+/// Members that know each other once nothing is lost any more go on to do so, whatever others send
+/// that the judges drop: each reports within 96 seconds, and what came from it stands for 192. So of
+/// what one sends, all comes to each other one as a member's, and the session becomes whole.
 pub fn judged_members_stay_known()
     ensures stays { StaysKnown }
     ensures known { JudgedStayKnown }

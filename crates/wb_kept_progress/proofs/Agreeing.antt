@@ -9,7 +9,7 @@ use Rattle.wb_keeper.proofs.KeptCalls.{holds_from}
 use Rattle.wb_progress.specs.Turns.{Terms}
 use Rattle.wb_progress.proofs.Giving.{held_as}
 use Rattle.wb_member.specs.Queries.{view_of}
-use Rattle.wb_laws_sessions.proofs.Sharing.{ShareAll, on_page, pages_alike, report_alike, view_alike}
+use Rattle.wb_laws_machines.proofs.Sharing.{ShareAll, on_page, pages_alike, report_alike, view_alike}
 use Rattle.wb_kept_progress.specs.Agreement.{LookAlike, NamesMeanOneAt, SessionsAgree}
 use Rattle.wb_kept_progress.specs.Sessions.{Opening}
 use Rattle.wb_kept_progress.specs.Timed.{TimedLine, called_at, lines_of}

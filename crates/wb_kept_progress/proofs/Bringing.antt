@@ -6,8 +6,7 @@ use Rattle.wb_codec.specs.declared.datagram.Datagram.TheVariants.{Draw}
 use Rattle.wb_member.specs.Opened.{Opened}
 use Rattle.wb_keeping.specs.Kept.{Line, Arrives, Says}
 use Rattle.wb_keeping.specs.Performing.{after_line}
-use Rattle.wb_laws_sessions.specs.Drawn.{drawn_by}
-use Rattle.wb_laws_sessions.specs.Sessions.{Does}
+use Rattle.wb_laws_sessions.specs.Members.{drawn_by, Does}
 use Rattle.wb_laws_sessions.proofs.Deeds.{ComesBy, deed_brings, deed_draws, same_line}
 
 -- it was held before, or comes by the line

@@ -8,7 +8,7 @@ use Rattle.wb_recovery.specs.Timing.{are_constants}
 use Rattle.wb_member.specs.Judged.{holds}
 use Rattle.wb_keeping.specs.Laws.{AreTaken as AreLinesTaken, KeptLine, after_kept, doing_of, fault_of}
 use Rattle.wb_keeping.specs.Performing.{Keeping, after_doing, sent_by_doing}
-use Rattle.wb_laws_sessions.specs.Sessions.{AreApart}
+use Rattle.wb_laws_machines.specs.Honest.{AreApart}
 use Rattle.wb_laws_kept.specs.Openings.{Opening, DoNotGoBack}
 use Rattle.wb_laws_kept.specs.Openings as openings
 use Rattle.wb_laws_kept.specs.Sessions.{AreTaken, Begins, Call, CallAt, Handed, IsTaken, after_call, given_lines, kept_at}

@@ -15,12 +15,12 @@ use Rattle.wb_policy.specs.declared.limits.TheConstants.{COST, MOST_DELAY}
 use Rattle.wb_keeping.specs.Laws.{KeptLine, Added, Came, Tuned, doing_of}
 use Rattle.wb_keeping.specs.Performing.{due, sent_by_doing}
 use Rattle.wb_judging.specs.Members.{needs}
-use Rattle.wb_laws_sessions.specs.Sessions.{AreApart}
+use Rattle.wb_laws_machines.specs.Honest.{AreApart}
 use Rattle.wb_laws_kept.specs.Openings as starts
 use Rattle.wb_laws_kept.specs.Openings.{opened, opened_host}
 use Rattle.wb_laws_kept.specs.Sessions.{AreTaken, Begins, Call, CallAt, Handed, given_lines, kept_at}
 use Rattle.wb_kept_progress.specs.Sessions.{Opening, at}
-use Rattle.wb_kept_progress.specs.Timed.{SaysNow, TimedLine}
+use Rattle.wb_kept_progress.specs.Timed.{GoByShort, SaysNow, TimedLine, performed, start_of}
 use Rattle.wb_kept_progress.specs.Crowded.{crowded_by, spent_in}
 use Rattle.wb_kept_progress.specs.Filling.{OnlyHolesAreLacked, filled_by}
 use Rattle.wb_kept_progress.specs.Rounds.{OneLacksAtMost, PlacesAreFilled, rounds_by}
@@ -121,13 +121,17 @@ pub record WasSentBy (numbers : ℕ → ℕ) (older : List CallAt) (time within 
   pub call : e.call ≡ Handed line
   pub sent : Contains (sent_by_doing (doing_of line) (kept_at numbers before e.place)) v
 
+-- No line since the last start of a live member goes by a delay above `far`.
+abbrev pub GoByShortSince : (ℕ → ℕ) → Terms → List CallAt → Type 0
+GoByShortSince numbers terms calls = let hosts = hosts_of numbers calls in GoByShort (λ j. start_of (hosts j)) terms (performed hosts (since numbers calls))
+
 -- The premises of `IsTimelySession`. Before `quiet` programs start and end as they like; nothing is asked of what came before the last start.
 pub record IsTimelyWithStarts (numbers : ℕ → ℕ) (terms : Terms) (calls : List CallAt) : Type 0 where
   pub apart : AreApart numbers
   pub taken : AreTaken numbers calls
   pub order : AreInOrder calls
   pub covered : terms.drift ≤ terms.late
-  pub far : MOST_DELAY ≤ terms.far
+  pub delays : (MOST_DELAY ≤ terms.far) ⊎ GoByShortSince numbers terms calls
   pub fitting : (i : ℕ) → Contains terms.live i → AreFittingSince terms (numbers i) i calls
   -- from `quiet` on
   pub alone : (newer older : List CallAt) (e : CallAt) → calls ≡ newer ++ e ∷ older → terms.quiet < e.time → Contains terms.live e.place × ((line : KeptLine) × (e.call ≡ Handed line))

@@ -8,7 +8,7 @@ use Rattle.wb_member.specs.Opened.{Opened}
 use Rattle.wb_names.specs.declared.name.TheConstants.{FIRST_FORGED}
 use Rattle.wb_keeping.specs.Laws.{doing_of}
 use Rattle.wb_keeping.specs.Performing.{sent_by_doing}
-use Rattle.wb_laws_sessions.specs.Sessions.{AreApart}
+use Rattle.wb_laws_machines.specs.Honest.{AreApart}
 use Rattle.wb_laws_kept.specs.Sessions.{AreTaken, CallAt, Handed, kept_at}
 use Rattle.wb_kept_progress.specs.Sessions.{LineAt, WasSent}
 

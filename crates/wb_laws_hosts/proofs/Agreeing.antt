@@ -25,9 +25,10 @@ use Rattle.wb_dialog.specs.Doing.{text_in}
 use Rattle.wb_dialog.specs.Boards.{BoardValue}
 use Rattle.wb_dialog.specs.Hosting.{Host, Driven, Kept, as_driven, kept_shows, reply}
 use Rattle.wb_dialog.specs.Lines.{asks}
-use Rattle.wb_laws_sessions.specs.Agreement.{Agree}
+use Rattle.wb_laws_machines.specs.Agreement.{Agree}
 use Rattle.wb_laws_sessions.specs.Drawn.{AreHonest}
-use Rattle.wb_laws_sessions.specs.Sessions.{AreApart, Step, host_at}
+use Rattle.wb_laws_sessions.specs.Sessions.{Step, host_at}
+use Rattle.wb_laws_machines.specs.Honest.{AreApart}
 use Rattle.wb_laws_sessions.proofs.Agreeing.{fits, older_honest, reports_tell_agreement}
 use Rattle.wb_laws_hosts.specs.Laws.{AskOf, IsOpenHost, ReportsTellShows, prints_at}
 use Rattle.wb_laws_hosts.specs.Telling as telling
@@ -94,7 +95,7 @@ module _ (numbers : ℕ → ℕ) (events newer older newer' older' : List EventA
   few_held : (new front : List EventAt) (k : ℕ) → events ≡ new ++ front → length (host_at numbers (steps_of_texts front) k).is.held ≤ MAX_CELLS
   few_held new front k e =
       let s = steps_split new front e in
-      let f = fits numbers (steps_of_texts events) apart honest (steps_of_texts front) (older_honest numbers (steps_of_texts events) apart honest s.0 (steps_of_texts front) (subst (AreHonest numbers) s.1 honest)) k in
+      let f = fits numbers (steps_of_texts front) (older_honest numbers s.0 (steps_of_texts front) (subst (AreHonest numbers) s.1 honest)) k in
       let a = f.few in
       let b = f.small in
       omega (arith, a, b)

@@ -19,7 +19,8 @@ use Rattle.wb_commands.proofs.SentDigits.{datagram_read}
 use Rattle.wb_dialog.specs.declared.line.DriverLine.TheVariants.{Script, Came}
 use Rattle.wb_dialog.specs.Dialog.{says_line}
 use Rattle.wb_dialog.specs.Hosting.{Host, Driven, Kept}
-use Rattle.wb_laws_sessions.specs.Sessions.{Deed, after_deed, sent_by_deed, sent_by_deeds}
+use Rattle.wb_laws_sessions.specs.Sessions.{sent_by_deeds}
+use Rattle.wb_laws_sessions.specs.Members.{Deed, after_deed, sent_by_deed}
 use Rattle.wb_laws_sessions.proofs.Sent.{deed_sends, sent_was_held}
 use Rattle.wb_laws_hosts.specs.Laws.{BytesTellDrawops, HandsIn, WasSent}
 use Rattle.wb_laws_hosts.specs.Texts.{deeds_at, hosting_at, sent_at, sent_at_host, steps_of_texts}

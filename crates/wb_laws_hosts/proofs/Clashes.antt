@@ -23,7 +23,9 @@ use Rattle.wb_dialog.specs.declared.line.DriverLine.TheVariants.{Script, Say, Ca
 use Rattle.wb_dialog.specs.Dialog.{batch_of, says_line}
 use Rattle.wb_dialog.specs.Hosting.{Host, Driven, Kept, Reply, prints, denies, reply, unsent_text}
 use Rattle.wb_laws_sessions.specs.Drawn.{AreHonest}
-use Rattle.wb_laws_sessions.specs.Sessions.{AreApart, Deed, Does, Step, host_at, steps_then}
+use Rattle.wb_laws_sessions.specs.Sessions.{Step, host_at, steps_then}
+use Rattle.wb_laws_sessions.specs.Members.{Deed, Does}
+use Rattle.wb_laws_machines.specs.Honest.{AreApart}
 use Rattle.wb_laws_sessions.proofs.Several.{arrival_never_clashes, drawing_never_clashes}
 use Rattle.wb_laws_hosts.specs.Laws.{BatchesCountNoClash, HandsIn}
 use Rattle.wb_laws_hosts.specs.Telling.{told_by, told_of, told_said}

@@ -24,8 +24,10 @@ use Rattle.wb_dialog.specs.declared.line.DriverLine.TheVariants.{Script, Say, Ke
 use Rattle.wb_dialog.specs.Dialog.{goes_out, refuses, says_line}
 use Rattle.wb_dialog.specs.Boards.{BoardValue}
 use Rattle.wb_dialog.specs.Hosting.{Host, Driven, Kept, Reply, prints, denies, as_driven, kept_does, kept_reply, reply, reply_to, board_after}
-use Rattle.wb_laws_sessions.specs.Drawn.{AreHonest, IsAbove, WasHeld, drawn_at}
-use Rattle.wb_laws_sessions.specs.Sessions.{Deed, Does, Step, host_at, steps_then}
+use Rattle.wb_laws_sessions.specs.Drawn.{AreHonest, WasHeld, drawn_at}
+use Rattle.wb_laws_machines.specs.Honest.{IsAbove}
+use Rattle.wb_laws_sessions.specs.Sessions.{Step, host_at, steps_then}
+use Rattle.wb_laws_sessions.specs.Members.{Deed, Does}
 use Rattle.wb_laws_sessions.proofs.Honest.{IsGiven, drawing_is_honest, given_is_honest, opening_is_honest}
 use Rattle.wb_laws_sessions.proofs.Several.{number_at}
 use Rattle.wb_laws_kept.proofs.Honest.{adds_honest, came_given, lines_honest, ticks_given}

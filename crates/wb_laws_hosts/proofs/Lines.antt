@@ -28,7 +28,8 @@ use Rattle.wb_dialog.specs.declared.line.DriverLine.TheVariants.{Script, Say, Ke
 use Rattle.wb_dialog.specs.Dialog.{Answer, answer_at, answered, goes_out, refuses, said_text, speaker}
 use Rattle.wb_dialog.specs.Boards.{BoardValue}
 use Rattle.wb_dialog.specs.Hosting.{Host, Driven, Kept, Reply, prints, denies, as_driven, begins, came_text, host_after, kept_does, kept_reply, kept_shows, reply, reply_to, board_after, unsent_text}
-use Rattle.wb_laws_sessions.specs.Sessions.{Deed, Opens, after_deeds, sent_by_deeds}
+use Rattle.wb_laws_sessions.specs.Sessions.{after_deeds, sent_by_deeds}
+use Rattle.wb_laws_sessions.specs.Members.{Deed, Opens}
 use Rattle.wb_laws_sessions.proofs.Several.{after_performed, sent_performed}
 use Rattle.wb_script.proofs.Refusals.{unless_both}
 use Rattle.wb_laws_hosts.specs.Texts.{IsMemberAt, IsOf, deeds_by, deeds_doing, deeds_driven, deeds_kept, deeds_of, deeds_said}

@@ -30,8 +30,8 @@ use Rattle.wb_dialog.specs.declared.line.DriverLine.{DriverLine}
 use Rattle.wb_dialog.specs.declared.line.DriverLine.TheVariants.{Script, Say, Keep, Came, Add}
 use Rattle.wb_dialog.specs.Dialog.{says_line}
 use Rattle.wb_dialog.specs.Hosting.{Host, Driven, Kept, Hosting, Reply, prints, denies, host_after, hosting_after, hosting_from, kept_does, kept_reply, reply, reply_of, reply_to, unopened}
-use Rattle.wb_laws_sessions.specs.Drawn.{drawn_by}
-use Rattle.wb_laws_sessions.specs.Sessions.{Deed, Does, after_deed, after_deeds}
+use Rattle.wb_laws_sessions.specs.Members.{drawn_by, Deed, Does, after_deed}
+use Rattle.wb_laws_sessions.specs.Sessions.{after_deeds}
 use Rattle.wb_laws_sessions.proofs.Deeds.{ComesBy, deed_brings, deed_draws, number_after}
 use Rattle.wb_laws_hosts.specs.Closings.{HoldsLines}
 use Rattle.wb_laws_hosts.specs.Laws.{BoardsAreInRange, IsOpenHost}

@@ -16,7 +16,8 @@ use Rattle.wb_dialog.specs.declared.line.DriverLine.TheVariants.{Script}
 use Rattle.wb_dialog.specs.Dialog.{says_line}
 use Rattle.wb_dialog.specs.Hosting.{Host, Driven, Kept, Hosting, reply}
 use Rattle.wb_laws_sessions.specs.Drawn.{WasDrawn, drawn_at}
-use Rattle.wb_laws_sessions.specs.Sessions.{Deed, Does, Opens, Step, host_at, sent, sent_by_deeds, steps_then}
+use Rattle.wb_laws_sessions.specs.Sessions.{Step, host_at, sent, sent_by_deeds, steps_then}
+use Rattle.wb_laws_sessions.specs.Members.{Deed, Does, Opens}
 use Rattle.wb_laws_sessions.proofs.Drawn.{held_was_drawn, names_mean_one, once_held_was_drawn}
 use Rattle.wb_laws_sessions.proofs.Sending.{one_of}
 use Rattle.wb_laws_sessions.proofs.Sent.{sent_was_held}

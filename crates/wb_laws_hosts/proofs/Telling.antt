@@ -11,7 +11,8 @@ use Rattle.wb_dialog.specs.declared.line.DriverLine.TheVariants.{Script}
 use Rattle.wb_dialog.specs.Dialog.{says_line}
 use Rattle.wb_dialog.specs.Doing.{text_in}
 use Rattle.wb_dialog.specs.Hosting.{Host, Driven, Kept, Reply, prints, denies, reply}
-use Rattle.wb_laws_sessions.specs.Sessions.{Deed, sent_by_deeds}
+use Rattle.wb_laws_sessions.specs.Sessions.{sent_by_deeds}
+use Rattle.wb_laws_sessions.specs.Members.{Deed}
 use Rattle.wb_laws_hosts.specs.Telling.{TextsTellSends, told_by, told_said}
 use Rattle.wb_laws_hosts.specs.Texts.{deeds_by, deeds_said, sent_at_host}
 use Rattle.wb_laws_hosts.proofs.Lines.{Led, said_led_at}

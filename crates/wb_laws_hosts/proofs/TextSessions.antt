@@ -5,7 +5,8 @@ use Rattle.wb_lines.specs.Taking.{met}
 use Rattle.wb_member.specs.Opened.{Opened}
 use Rattle.wb_dialog.specs.Dialog.{says_line}
 use Rattle.wb_dialog.specs.Hosting.{Hosting}
-use Rattle.wb_laws_sessions.specs.Sessions.{Deed, Step, after_deeds, host_at, steps_then}
+use Rattle.wb_laws_sessions.specs.Sessions.{Step, after_deeds, host_at, steps_then}
+use Rattle.wb_laws_sessions.specs.Members.{Deed}
 use Rattle.wb_laws_sessions.proofs.Several.{after_all, number_at, then_split}
 use Rattle.wb_laws_hosts.specs.Texts.{Event, EventAt, HaveNumbers, IsMemberAt, IsNumbered, Starts, Takes, TextsAreSessions, deeds_of_event, hosting_after_event, hosting_at, steps_of_texts}
 use Rattle.wb_laws_hosts.proofs.Lines.{line_after}

@@ -10,8 +10,8 @@ use Rattle.wb_member.specs.Opened.{last_number}
 use Rattle.wb_dialog.specs.declared.line.DriverLine.TheVariants.{Say, Add}
 use Rattle.wb_dialog.specs.Dialog.{says_line}
 use Rattle.wb_dialog.specs.Hosting.{Host, Driven, Kept}
-use Rattle.wb_laws_sessions.specs.Drawn.{AreHonest, IsAbove, WasHeld, drawn_at}
-use Rattle.wb_laws_sessions.specs.Sessions.{AreApart}
+use Rattle.wb_laws_sessions.specs.Drawn.{AreHonest, WasHeld, drawn_at}
+use Rattle.wb_laws_machines.specs.Honest.{IsAbove, AreApart}
 use Rattle.wb_laws_hosts.specs.Laws.{HandsIn, ReportsTellShowsAt}
 use Rattle.wb_laws_hosts.specs.Texts.{EventAt, HaveNumbers, Takes, hosting_at, steps_of_texts}
 

@@ -24,7 +24,8 @@ use Rattle.wb_dialog.specs.Doing.{text_in}
 use Rattle.wb_dialog.specs.Hosting.{Host, Driven, Kept, Hosting, block_of, reply_of, transcript}
 use Rattle.wb_dialog.specs.Lines.{asks, line_of}
 use Rattle.wb_laws_sessions.specs.Drawn.{AreHonest, WasHeld}
-use Rattle.wb_laws_sessions.specs.Sessions.{AreApart, Does}
+use Rattle.wb_laws_sessions.specs.Members.{Does}
+use Rattle.wb_laws_machines.specs.Honest.{AreApart}
 use Rattle.wb_laws_hosts.specs.Telling.{told_at}
 use Rattle.wb_laws_hosts.specs.Texts.{CameOut, Event, EventAt, HaveNumbers, Starts, Takes, deeds_at, hosting_at, sent_at, steps_of_texts}
 

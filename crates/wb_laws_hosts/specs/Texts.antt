@@ -18,7 +18,8 @@ use Rattle.wb_dialog.specs.declared.line.DriverLine.{DriverLine}
 use Rattle.wb_dialog.specs.declared.line.DriverLine.TheVariants as driver
 use Rattle.wb_dialog.specs.Dialog.{says_line}
 use Rattle.wb_dialog.specs.Hosting.{Host, Driven, Kept, Hosting, Reply, prints, denies, hosting_after, reply_of, unopened}
-use Rattle.wb_laws_sessions.specs.Sessions.{Deed, Does, Opens, Step, host_at, sent_by_deeds, steps_then}
+use Rattle.wb_laws_sessions.specs.Sessions.{Step, host_at, sent_by_deeds, steps_then}
+use Rattle.wb_laws_sessions.specs.Members.{Deed, Does, Opens}
 
 -- A process starts, and the one before it at its place is gone; or it is handed a line.
 pub data Event : Type 0 where

@@ -4,23 +4,24 @@ use Rattle.std.specs.Prelude.{Contains}
 use Rattle.wb_names.specs.Values.{DrawopValue}
 use Rattle.wb_gaps.specs.Answers.{report_of}
 use Rattle.wb_member.specs.Opened.{Opened, gaps_at}
-use Rattle.wb_laws_sessions.specs.Agreement.{Agree}
+use Rattle.wb_laws_machines.specs.Agreement.{Agree}
 use Rattle.wb_laws_sessions.specs.Sessions.{Step, host_at}
 use Rattle.wb_laws_sessions.proofs.Agreeing.{reports_tell_agreement}
 use Rattle.wb_laws_sessions.proofs.Drawn.{names_mean_one, once_held_was_drawn}
 use Rattle.wb_laws_sessions.proofs.Several.{then_split}
-use Rattle.wb_laws_sessions.proofs.Outcomes.{Found, found}
+use Rattle.wb_laws_machines.proofs.Outcomes.{Found, found}
 use Rattle.wb_laws_kept.specs.Restarts.{KeptNeverClash, KeptReportsTellAgreement}
 use Rattle.wb_laws_kept.specs.Sessions.{CallAt, kept_at, steps_of}
 use Rattle.wb_laws_kept.proofs.Honest.{kept_are_honest}
-use Rattle.wb_laws_kept.proofs.Steps.{deeds_of_call, kept_is_session}
+use Rattle.wb_laws_kept.specs.Kept.{deeds_of}
+use Rattle.wb_laws_kept.proofs.Steps.{kept_is_session}
 
 -- the steps of a part of calls are a part of the steps
 pub steps_split : (numbers : ℕ → ℕ) (newer older : List CallAt) → (front : List Step) × (steps_of numbers (newer ++ older) ≡ front ++ steps_of numbers older)
 steps_split numbers [] older = ([], refl)
 steps_split numbers (e ∷ newer) older =
     let rest = steps_split numbers newer older in
-    let one = then_split e.time e.place (deeds_of_call e.call (kept_at numbers (newer ++ older) e.place)) (steps_of numbers (newer ++ older)) in
+    let one = then_split e.time e.place (deeds_of e.call (kept_at numbers (newer ++ older) e.place)) (steps_of numbers (newer ++ older)) in
     (one.0 ++ rest.0, one.1 ∙ ap (λ (s : List Step). one.0 ++ s) rest.1 ∙ sym (append_assoc one.0 rest.0 (steps_of numbers older)))
 
 pub kept_reports_tell_agreement : KeptReportsTellAgreement

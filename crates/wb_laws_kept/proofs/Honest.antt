@@ -17,7 +17,8 @@ use Rattle.wb_keeping.specs.Performing.{Keeping, after_doing, sees, view_of}
 use Rattle.wb_policy.specs.Policy.{Policy}
 use Rattle.wb_keeping.proofs.EachLine.{DoesEach, Each, OfPolicy, each_both, ends_each, hears_each, then_each, timed_each}
 use Rattle.wb_laws_sessions.specs.Drawn.{AreHonest, WasHeld, drawn_at}
-use Rattle.wb_laws_sessions.specs.Sessions.{Deed, Does, Opens, Step, host_at, steps_then}
+use Rattle.wb_laws_sessions.specs.Sessions.{Step, host_at, steps_then}
+use Rattle.wb_laws_sessions.specs.Members.{Deed, Does, Opens}
 use Rattle.wb_laws_sessions.proofs.Several.{number_at}
 use Rattle.wb_laws_sessions.proofs.Honest.{IsGiven, call_is_honest, drawing_is_honest, given_is_honest, opening_is_honest}
 use Rattle.wb_laws_kept.specs.Restarts.{KeptAreHonest, KnowTheirOwn, KnowsItsOwn}
@@ -66,7 +67,7 @@ module _ (numbers : ℕ → ℕ) where
 
   module _ (time place : ℕ) (comes : DrawopValue → Type 0) where
     abbrev step : Line → Step
-    step line = record { time = time; place = place; deed = Does line }
+    step line = record { time = time; place = place; event = Does line }
 
     pub lines_honest : (lines : List Line) (older : List Step) → AreHonest numbers older → ((d : DrawopValue) → comes d → WasHeld numbers older d) → Each (IsGiven comes) lines → AreHonest numbers (steps_then time place (map Does lines) older)
     lines_honest [] older honest held each = honest
@@ -74,7 +75,7 @@ module _ (numbers : ℕ → ℕ) where
         lines_honest lines (step line ∷ older) (given_is_honest numbers older time place comes held line each.0, honest) (λ d is. held_later (step line) older d (held d is)) each.1
 
   -- a tick draws nothing
-  drawn_behind : (time place now : ℕ) (older : List Step) (d : DrawopValue) → Contains (drawn_at numbers (record { time = time; place = place; deed = Does (Calls (Tick now)) } ∷ older) place) d → Contains (drawn_at numbers older place) d
+  drawn_behind : (time place now : ℕ) (older : List Step) (d : DrawopValue) → Contains (drawn_at numbers (record { time = time; place = place; event = Does (Calls (Tick now)) } ∷ older) place) d → Contains (drawn_at numbers older place) d
   drawn_behind time place now older d c = by (nat_eq place place) c where
     by : (b : Bool) → Contains (cond b (drawn_at numbers older place) (drawn_at numbers older place)) d → Contains (drawn_at numbers older place) d
     by true c = c
@@ -91,7 +92,7 @@ module _ (numbers : ℕ → ℕ) where
     its = drawing (view_of ticked_host) page told op
 
     abbrev with_tick : List Step
-    with_tick = record { time = time; place = place; deed = Does (Calls (Tick now)) } ∷ older
+    with_tick = record { time = time; place = place; event = Does (Calls (Tick now)) } ∷ older
 
     its_own : its.name.source ≡ numbers place
     its_own = ap (λ (h : Opened). h.is.number) (sym there) ∙ number_at numbers older place
@@ -111,9 +112,9 @@ module _ (numbers : ℕ → ℕ) where
     pub adds_honest : (p : Policy) → AreHonest numbers (steps_then time place (map Does (adds now page told op (sees k.host) p).lines) older)
     adds_honest p =
         let tick : AreHonest numbers with_tick = (call_is_honest numbers older time place (Tick now), honest) in
-        let says : AreHonest numbers (record { time = time; place = place; deed = Does (Says (Draw its)) } ∷ with_tick) =
+        let says : AreHonest numbers (record { time = time; place = place; event = Does (Says (Draw its)) } ∷ with_tick) =
         (drawing_is_honest numbers with_tick time place its its_own (omega arith) (inr is_above), tick) in
-        lines_honest time place none _ (record { time = time; place = place; deed = Does (Says (Draw its)) } ∷ with_tick) says (λ d is. absurd is)
+        lines_honest time place none _ (record { time = time; place = place; event = Does (Says (Draw its)) } ∷ with_tick) says (λ d is. absurd is)
         (then_each (IsGiven none) ends_full timed (ends_each (IsGiven none) (of_policy none)) (timed_given none) (λ (lines : List Line). sees k.host (Calls (Tick now) ∷ (Says (Draw its) ∷ lines))) p)
 
   -- ---- calls
@@ -136,7 +137,7 @@ module _ (numbers : ℕ → ℕ) where
     call_honest (Handed (Tuned constants)) taken were knows = (call_is_honest numbers (steps_of numbers older) time place (Tune constants), honest)
     call_honest (Begins o given) taken were knows =
         let first : Keeping = opened k.host.is.number o in
-        let opening : Step = record { time = time; place = place; deed = Opens o.constants o.cells o.seed } in
+        let opening : Step = record { time = time; place = place; event = Opens o.constants o.cells o.seed } in
         lines_honest time place (λ d. Contains given (Draw d)) (ticks_at o.moments ++ expand (given_lines first given) first) (opening ∷ steps_of numbers older)
         (opening_is_honest numbers (steps_of numbers older) time place o.constants o.cells o.seed taken.0.small, honest)
         (λ d c. held_later opening (steps_of numbers older) d (were.given o given d refl c))

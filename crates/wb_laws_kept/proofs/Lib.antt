@@ -1,5 +1,6 @@
 pub mod Steps
 pub mod Honest
+pub mod Kept
 pub mod Agreeing
 pub mod Replaying
 pub mod Restarting

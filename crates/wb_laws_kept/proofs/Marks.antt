@@ -43,17 +43,19 @@ use Rattle.wb_keeping.proofs.Performed.{after_both, sent_by_both}
 use Rattle.wb_keeping.proofs.Wanted.{is_wanted_here, lines_wanted}
 use Rattle.wb_board.specs.Counts.{MAX_CELLS}
 use Rattle.wb_laws_sessions.specs.Drawn.{WasHeld}
-use Rattle.wb_laws_sessions.specs.Sessions.{Deed, Does, Step, after_deed, host_at, sent, sent_by_deed, sent_by_deeds, steps_then}
+use Rattle.wb_laws_sessions.specs.Sessions.{Step, host_at, sent, sent_by_deeds, steps_then}
+use Rattle.wb_laws_sessions.specs.Members.{Deed, Does, after_deed, sent_by_deed}
 use Rattle.wb_laws_sessions.proofs.Deeds.{Fits, fits_after}
 use Rattle.wb_laws_sessions.proofs.Drawn.{once_held_was_drawn}
-use Rattle.wb_laws_sessions.proofs.Names.{holds_name, of_name}
+use Rattle.wb_laws_machines.proofs.Names.{holds_name, of_name}
 use Rattle.wb_laws_kept.specs.Openings.{Opening, opened}
 use Rattle.wb_laws_kept.specs.Restarts.{MarksWereDrawn}
 use Rattle.wb_laws_kept.specs.Sessions.{AreTaken, Begins, Call, CallAt, Handed, IsTaken, after_call, given_lines, kept_at, steps_of}
 use Rattle.wb_laws_kept.proofs.Agreeing.{steps_split}
 use Rattle.wb_laws_kept.proofs.Honest.{kept_are_honest}
 use Rattle.wb_laws_kept.proofs.Restarting.{line_grows}
-use Rattle.wb_laws_kept.proofs.Steps.{deeds_of_call, kept_is_session}
+use Rattle.wb_laws_kept.specs.Kept.{deeds_of}
+use Rattle.wb_laws_kept.proofs.Steps.{kept_is_session}
 use Rattle.wb_laws_sessions.proofs.Sending.{one_of}
 use Rattle.wb_laws_sessions.proofs.Several.{sent_performed}
 use Rattle.std.proofs.lemmas.Option.{same_Some}
@@ -314,7 +316,7 @@ module _ (numbers : ℕ → ℕ) where
       inr (Contains-append_right (sent_by_deed deed host) (sent_by_deeds deeds (after_deed deed host)) v (subst (λ (h : Opened). Contains (sent_by_deeds deeds h) v) there later)))
       (sent_then time place deeds (s ∷ older) v c) where
         s : Step
-        s = record { time = time; place = place; deed = deed }
+        s = record { time = time; place = place; event = deed }
 
         host : Opened
         host = host_at numbers older place
@@ -323,7 +325,7 @@ module _ (numbers : ℕ → ℕ) where
         there = ap (λ (b : Bool). cond b (after_deed deed host) host) (eq-eqb place place refl)
 
   -- what a call sends tells marks of what its member holds then
-  call_tells : (call : Call) (k : Keeping) → IsTaken call k → Fits k.host → (v : Datagram) → Contains (sent_by_deeds (deeds_of_call call k) k.host) v → TellsHeld (after_call call k).host.is.held v
+  call_tells : (call : Call) (k : Keeping) → IsTaken call k → Fits k.host → (v : Datagram) → Contains (sent_by_deeds (deeds_of call k) k.host) v → TellsHeld (after_call call k).host.is.held v
   call_tells (Handed line) k taken fits v c =
       let lines = (doing_of line (sees k.host) k.policy).lines in
       (line_holds Tells steps_tell line k taken).tells fits v (subst (λ (sent : List Datagram). Contains sent v) (sent_performed lines k.host) c)
@@ -349,8 +351,8 @@ module _ (numbers : ℕ → ℕ) where
   marks_were_held [] taken v page m c told = absurd (Contains-none v c)
   marks_were_held (e ∷ older) taken v page m c told = ⊎_elim
       (λ (before : Contains (sent numbers (steps_of numbers older)) v). earlier (marks_were_held older taken.1 v page m before told))
-      (λ (now : Contains (sent_by_deeds (deeds_of_call e.call k) (host_at numbers (steps_of numbers older) e.place)) v). at_once now)
-      (sent_then e.time e.place (deeds_of_call e.call k) (steps_of numbers older) v c) where
+      (λ (now : Contains (sent_by_deeds (deeds_of e.call k) (host_at numbers (steps_of numbers older) e.place)) v). at_once now)
+      (sent_then e.time e.place (deeds_of e.call k) (steps_of numbers older) v c) where
         k : Keeping
         k = kept_at numbers older e.place
 
@@ -362,9 +364,9 @@ module _ (numbers : ℕ → ℕ) where
         same : (after_call e.call k).host ≡ host_at numbers (steps_of numbers (e ∷ older)) e.place
         same = ap (λ (b : Bool). (cond b (after_call e.call k) k).host) (sym (eq-eqb e.place e.place refl)) ∙ sym (kept_is_session numbers (e ∷ older) e.place)
 
-        at_once : Contains (sent_by_deeds (deeds_of_call e.call k) (host_at numbers (steps_of numbers older) e.place)) v → WasHeldAs (e ∷ older) (name_of page m.source m.high)
+        at_once : Contains (sent_by_deeds (deeds_of e.call k) (host_at numbers (steps_of numbers older) e.place)) v → WasHeldAs (e ∷ older) (name_of page m.source m.high)
         at_once now =
-            let tells = call_tells e.call k taken.0 (kept_fits older taken.1 e.place) v (subst (λ (h : Opened). Contains (sent_by_deeds (deeds_of_call e.call k) h) v) (kept_is_session numbers older e.place) now) in
+            let tells = call_tells e.call k taken.0 (kept_fits older taken.1 e.place) v (subst (λ (h : Opened). Contains (sent_by_deeds (deeds_of e.call k) h) v) (kept_is_session numbers older e.place) now) in
             let x = of_name (after_call e.call k).host.is.held (name_of page m.source m.high) (tells page m told) in
             (x.0, record { newer = []; older = steps_of numbers (e ∷ older); split = refl; place = e.place; held = subst (λ (h : Opened). Contains h.is.held x.0) same x.1 }, x.2)
 

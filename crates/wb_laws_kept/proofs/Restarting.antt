@@ -15,13 +15,15 @@ use Rattle.wb_keeping.specs.Laws.{KeptLine, after_kept, doing_of, expand}
 use Rattle.wb_laws_kept.specs.Openings.{Opening, opened}
 use Rattle.wb_keeping.specs.Performing.{Keeping, sees}
 use Rattle.wb_keeping.proofs.EachLine.{Each, each_both}
-use Rattle.wb_laws_sessions.specs.Drawn.{AreHonest, WasDrawn, WasHeld, drawn_at, drawn_by}
-use Rattle.wb_laws_sessions.specs.Sessions.{AreApart, Deed, Does, Opens, Step, after_deed, host_at, steps_then}
+use Rattle.wb_laws_sessions.specs.Drawn.{AreHonest, WasDrawn, WasHeld, drawn_at}
+use Rattle.wb_laws_sessions.specs.Members.{drawn_by, Deed, Does, Opens, after_deed}
+use Rattle.wb_laws_sessions.specs.Sessions.{Step, host_at, steps_then}
+use Rattle.wb_laws_machines.specs.Honest.{AreApart}
 use Rattle.wb_laws_sessions.proofs.Deeds.{deed_draws}
 use Rattle.wb_laws_sessions.proofs.Drawn.{drawn_cases, names_mean_one, numbers_count, once_held_was_drawn}
 use Rattle.wb_laws_sessions.proofs.Honest.{IsGiven, given_draws_none}
-use Rattle.wb_laws_sessions.proofs.Names.{at_most_highest}
-use Rattle.wb_laws_sessions.proofs.Outcomes.{with_more}
+use Rattle.wb_laws_machines.proofs.Names.{at_most_highest}
+use Rattle.wb_laws_machines.proofs.Outcomes.{with_more}
 use Rattle.wb_laws_sessions.proofs.Several.{number_at}
 use Rattle.wb_laws_kept.specs.Restarts.{IsWholeRecord, KnowTheirOwn, KnowsItsOwn, RecordedReportsTellAgreement, RecordsAreWhole, WholeRecordsTell, drawops_in}
 use Rattle.wb_laws_kept.specs.Sessions.{AreTaken, Begins, Call, CallAt, DrawopsWereHeld, Handed, after_call, given_lines, kept_at, steps_of}
@@ -47,7 +49,7 @@ module _ (numbers : ℕ → ℕ) where
 
   module _ (time place : ℕ) where
     abbrev step : Deed → Step
-    step deed = record { time = time; place = place; deed = deed }
+    step deed = record { time = time; place = place; event = deed }
 
     line_holds : (line : Line) (older : List Step) → HoldTheirOwn older → HoldTheirOwn (step (Does line) ∷ older)
     line_holds line older own i d c = by (nat_eq place i) refl (drawn_cases numbers (step (Does line)) older i d c) where
@@ -117,7 +119,7 @@ module _ (numbers : ℕ → ℕ) where
       lines = ticks_at o.moments ++ expand (given_lines (first place) given) (first place)
 
       opening : Step
-      opening = record { time = time; place = place; deed = Opens o.constants o.cells o.seed }
+      opening = record { time = time; place = place; event = Opens o.constants o.cells o.seed }
 
       comes : DrawopValue → Type 0
       comes x = Contains given (Draw x)

@@ -1,5 +1,5 @@
 -- Self-managing members are members of a session: calls are steps.
-use Rattle.std.proofs.Common.{◌≡◌, ℕ, Bool, true, false, cond, List, [], ◌∷◌, ◌++◌, ◌∙◌, ap, eqb-true, map, refl, sym}
+use Rattle.std.proofs.Common.{◌≡◌, ℕ, Bool, true, false, cond, List, [], ◌∷◌, ◌++◌, ◌∙◌, ap, eqb-true, refl, sym}
 use Rattle.std.specs.Prelude.{nat_eq}
 use Rattle.wb_member.specs.Lines.{ticks_at}
 use Rattle.wb_member.specs.Opened.{Opened, opened_with}
@@ -8,15 +8,13 @@ use Rattle.wb_laws_kept.specs.Openings.{opened}
 use Rattle.wb_keeping.specs.Performing.{Keeping, sees}
 use Rattle.wb_keeping.proofs.KeptHosts.{kept_hosts_are_hosts}
 use Rattle.wb_keeping.proofs.Performed.{after_both}
-use Rattle.wb_laws_sessions.specs.Sessions.{Deed, Does, after_deeds, host_at, steps_then}
+use Rattle.wb_laws_sessions.specs.Sessions.{after_deeds, host_at, steps_then}
+use Rattle.wb_laws_sessions.specs.Members.{Deed}
 use Rattle.wb_laws_sessions.proofs.Several.{after_all, after_performed}
-use Rattle.wb_laws_kept.specs.Sessions.{Begins, Call, CallAt, Handed, KeptIsSession, after_call, given_lines, kept_at, lines_of_call, opens_of_call, steps_of}
+use Rattle.wb_laws_kept.specs.Kept.{deeds_of}
+use Rattle.wb_laws_kept.specs.Sessions.{Begins, Call, CallAt, Handed, KeptIsSession, after_call, given_lines, kept_at, steps_of}
 
--- what a call does as deeds
-abbrev pub deeds_of_call : Call → Keeping → List Deed
-deeds_of_call call k = opens_of_call call ++ map Does (lines_of_call call k)
-
-call_is : (call : Call) (k : Keeping) → after_deeds (deeds_of_call call k) k.host ≡ (after_call call k).host
+pub call_is : (call : Call) (k : Keeping) → after_deeds (deeds_of call k) k.host ≡ (after_call call k).host
 call_is (Handed line) k = after_performed (doing_of line (sees k.host) k.policy).lines k.host
 call_is (Begins o given) k =
     let first : Keeping = opened k.host.is.number o in
@@ -30,7 +28,7 @@ module _ (numbers : ℕ → ℕ) where
   one_call : (e : CallAt) (older : List CallAt) (i : ℕ) → host_at numbers (steps_of numbers older) i ≡ (kept_at numbers older i).host → host_at numbers (steps_of numbers (e ∷ older)) i ≡ (kept_at numbers (e ∷ older) i).host
   one_call e older i rest = from (nat_eq e.place i) refl where
     deeds : ℕ → List Deed
-    deeds p = deeds_of_call e.call (kept_at numbers older p)
+    deeds p = deeds_of e.call (kept_at numbers older p)
 
     from : (b : Bool) → nat_eq e.place i ≡ b → host_at numbers (steps_then e.time e.place (deeds e.place) (steps_of numbers older)) i ≡ (cond b (after_call e.call (kept_at numbers older i)) (kept_at numbers older i)).host
     from true same =

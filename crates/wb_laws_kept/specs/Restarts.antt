@@ -13,9 +13,10 @@ use Rattle.wb_keeper.specs.Hearing.{marks_in}
 use Rattle.wb_member.specs.Opened.{becomes, gaps_at, last_number}
 use Rattle.wb_keeping.specs.Laws.{Added}
 use Rattle.wb_laws_kept.specs.Openings.{Opening}
-use Rattle.wb_laws_sessions.specs.Agreement.{Agree}
+use Rattle.wb_laws_machines.specs.Agreement.{Agree}
 use Rattle.wb_laws_sessions.specs.Drawn.{AreHonest, WasDrawn, WasHeld, drawn_at}
-use Rattle.wb_laws_sessions.specs.Sessions.{AreApart, sent}
+use Rattle.wb_laws_sessions.specs.Sessions.{sent}
+use Rattle.wb_laws_machines.specs.Honest.{AreApart}
 use Rattle.wb_laws_kept.specs.Sessions.{AreTaken, Begins, CallAt, DrawopsWereHeld, Handed, kept_at, steps_of}
 
 abbrev pub drawop_in : Datagram → Option DrawopValue

@@ -13,7 +13,8 @@ use Rattle.wb_laws_kept.specs.Openings.{IsOpening, Opening, opened}
 use Rattle.wb_keeping.specs.Performing.{Keeping, after_doing, sees}
 use Rattle.wb_policy.specs.Policy.{begun}
 use Rattle.wb_laws_sessions.specs.Drawn.{WasHeld}
-use Rattle.wb_laws_sessions.specs.Sessions.{Deed, Does, Opens, Step, host_at, steps_then, unopened}
+use Rattle.wb_laws_sessions.specs.Sessions.{Step, host_at, steps_then}
+use Rattle.wb_laws_sessions.specs.Members.{Deed, Does, Opens, unopened}
 
 -- a program starts with what its record has, or is handed a line: `came`, `tick`, `add`, `tuning`
 pub data Call : Type 0 where

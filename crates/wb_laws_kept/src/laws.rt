@@ -1,14 +1,18 @@
 //! Laws of self-managing members. Each function does nothing: its contract is a law, for proofs to
 //! cite.
 
+ghost use Rattle.wb_laws_machines.specs.Maps.{IsMap};
+ghost use Rattle.wb_laws_sessions.specs.Members.{member};
+ghost use Rattle.wb_laws_kept.specs.Kept.{kept, kept_map};
 ghost use Rattle.wb_laws_kept.specs.Examples.{Forgets, Listens, Restarts};
 ghost use Rattle.wb_laws_kept.specs.Listening.{ListeningTells};
 ghost use Rattle.wb_laws_kept.specs.Restarts.{KeptAreHonest, KeptNeverClash, KeptReportsTellAgreement, MarksWereDrawn, RecordedReportsTellAgreement, WholeRecordsTell};
 ghost use Rattle.wb_laws_kept.specs.Sessions.{KeptIsSession};
 
-/// Self-managing members are members of a session. What they do keeps to its terms, if what comes
-/// was held before, and if they know their own numbers.
+/// Self-managing members are members of a session: in each call they do what some deeds of a member do.
+/// What they do keeps to its terms, if what comes was held before, and if they know their own numbers.
 pub fn kept_members_are_members()
+    ensures map { IsMap kept member kept_map }
     ensures same { KeptIsSession }
     ensures honest { KeptAreHonest }
 {}

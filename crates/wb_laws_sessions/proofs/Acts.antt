@@ -8,7 +8,7 @@ use Rattle.wb_names.specs.declared.name.PageId.{PageId}
 use Rattle.wb_names.proofs.Listings.{Contains-here, Contains-there, Contains-none}
 use Rattle.wb_codec.specs.declared.datagram.Datagram.TheVariants.{Draw, Session, AskPages}
 use Rattle.wb_member.specs.Members.{Member, Act, Draws, Takes, Hears, Ticks, Reports, AsksForPages, next_drawop, after, sends}
-use Rattle.wb_laws_sessions.proofs.Outcomes.{with_more}
+use Rattle.wb_laws_machines.proofs.Outcomes.{with_more}
 use Rattle.wb_laws_sessions.proofs.Sending.{answers_held, no_answer, one_draw, one_of}
 use Rattle.wb_laws_sessions.proofs.Deeds.{arrival_brings}
 

@@ -28,7 +28,8 @@ use Rattle.wb_member.specs.Members.{Member, Act, Draws, Takes, Hears, SetsDelay,
 use Rattle.wb_member.specs.Opened.{Opened, accepted, opened_with, present}
 use Rattle.wb_progress.specs.Repairs.{timers_at}
 use Rattle.wb_progress.proofs.OneCall.{received_in, not_standing}
-use Rattle.wb_laws_sessions.specs.Sessions.{Deed, Does, Opens, Step, after_deed, host_at}
+use Rattle.wb_laws_sessions.specs.Sessions.{Step, host_at}
+use Rattle.wb_laws_sessions.specs.Members.{Deed, Does, Opens, after_deed}
 use Rattle.wb_laws_sessions.specs.Timers.{AnswersAreOfHeld, NoneHeldIsAskedFor}
 use Rattle.wb_laws_sessions.proofs.Acts.{held_after, held_grows}
 use Rattle.wb_laws_sessions.proofs.CallActs.{IsCareful, call_acts}
@@ -219,7 +220,7 @@ module _ (P : Member → Type 0) (stays : (act : Act) (m : Member) → IsCareful
 
   host_keeps : ((constants : Tuning) (number cells seed : ℕ) → P (opened_with constants number cells seed).is) → (numbers : ℕ → ℕ) (steps : List Step) (i : ℕ) → P (host_at numbers steps i).is
   host_keeps opens numbers [] i = opens _ (numbers i) 0 0
-  host_keeps opens numbers (e ∷ older) i = by (host_keeps opens numbers older i) (nat_eq e.place i) e.deed where
+  host_keeps opens numbers (e ∷ older) i = by (host_keeps opens numbers older i) (nat_eq e.place i) e.event where
     by : P (host_at numbers older i).is → (b : Bool) (deed : Deed) → P (cond b (after_deed deed (host_at numbers older i)) (host_at numbers older i)).is
     by is true (Does line) = line_keeps line (host_at numbers older i) is
     by is true (Opens constants cells seed) = opens constants (host_at numbers older i).is.number cells seed

@@ -1,10 +1,8 @@
-pub mod Outcomes
 pub mod Once
 pub mod Room
-pub mod Names
-pub mod Sharing
 pub mod Deeds
 pub mod Drawn
+pub mod Members
 pub mod Sending
 pub mod Several
 pub mod Acts

@@ -17,8 +17,9 @@ use Rattle.wb_keeper.specs.Hearing.{answers_to, asks_for_pages, page_states}
 use Rattle.wb_keeper.specs.Ticks.{drawop_of, sent_for, sends_for}
 use Rattle.wb_keeper.proofs.TickSends.{sent_from}
 use Rattle.wb_member.specs.Lines.{said_where}
-use Rattle.wb_laws_sessions.specs.Sessions.{Step, after_deed, host_at}
-use Rattle.wb_laws_sessions.proofs.Outcomes.{Found}
+use Rattle.wb_laws_sessions.specs.Sessions.{Step, host_at}
+use Rattle.wb_laws_sessions.specs.Members.{after_deed}
+use Rattle.wb_laws_machines.proofs.Outcomes.{Found}
 use Rattle.std.proofs.lemmas.Option.{same_Some}
 
 -- a look-up finds a drawop of the history
@@ -62,5 +63,5 @@ said_held held x d (Again place) f c = subst (Contains held) (one_draw x d (one_
 said_held held x d (Clash place) f c = absurd (Contains-none (Draw d) c)
 said_held held x d Left f c = absurd (Contains-none (Draw d) c)
 
-pub there : (numbers : ℕ → ℕ) (e : Step) (older : List Step) → host_at numbers (e ∷ older) e.place ≡ after_deed e.deed (host_at numbers older e.place)
-there numbers e older = ap (λ (b : Bool). cond b (after_deed e.deed (host_at numbers older e.place)) (host_at numbers older e.place)) (eq-eqb e.place e.place refl)
+pub there : (numbers : ℕ → ℕ) (e : Step) (older : List Step) → host_at numbers (e ∷ older) e.place ≡ after_deed e.event (host_at numbers older e.place)
+there numbers e older = ap (λ (b : Bool). cond b (after_deed e.event (host_at numbers older e.place)) (host_at numbers older e.place)) (eq-eqb e.place e.place refl)

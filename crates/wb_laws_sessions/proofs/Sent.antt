@@ -12,10 +12,11 @@ use Rattle.wb_member.specs.Members.{Member, Act, Draws, sends}
 use Rattle.wb_member.specs.Opened.{Opened}
 use Rattle.wb_member.specs.declared.calls.Call.{Call}
 use Rattle.wb_laws_sessions.specs.Drawn.{SentWasHeld}
-use Rattle.wb_laws_sessions.specs.Sessions.{Deed, Does, Step, after_deed, host_at, sent, sent_by_deed}
+use Rattle.wb_laws_sessions.specs.Sessions.{Step, host_at, sent}
+use Rattle.wb_laws_sessions.specs.Members.{Deed, Does, after_deed, sent_by_deed}
 use Rattle.wb_laws_sessions.proofs.Acts.{IsDrawing, draws_sent}
 use Rattle.wb_laws_sessions.proofs.CallActs.{IsCareful, call_acts}
-use Rattle.wb_laws_sessions.proofs.Outcomes.{found}
+use Rattle.wb_laws_machines.proofs.Outcomes.{found}
 use Rattle.wb_laws_sessions.proofs.Sending.{one_of, said_held, there}
 
 -- an act that draws nothing sends only drawops that are held
@@ -40,11 +41,11 @@ deed_sends deed host d c = absurd (Contains-none (Draw d) c)
 pub sent_was_held : SentWasHeld
 sent_was_held numbers [] d c = absurd (Contains-none (Draw d) c)
 sent_was_held numbers (e ∷ older) d c = ⊎_elim
-    (λ (now : Contains (sent_by_deed e.deed (host_at numbers older e.place)) (Draw d)). ⊎_elim
+    (λ (now : Contains (sent_by_deed e.event (host_at numbers older e.place)) (Draw d)). ⊎_elim
     (λ (was : Contains (host_at numbers older e.place).is.held d). record { newer = e ∷ []; older = older; split = refl; place = e.place; held = was })
-    (λ (is : Contains (after_deed e.deed (host_at numbers older e.place)).is.held d).
+    (λ (is : Contains (after_deed e.event (host_at numbers older e.place)).is.held d).
     record { newer = []; older = e ∷ older; split = refl; place = e.place; held = subst (λ (h : Opened). Contains h.is.held d) (sym (there numbers e older)) is })
-    (deed_sends e.deed (host_at numbers older e.place) d now))
+    (deed_sends e.event (host_at numbers older e.place) d now))
     (λ (before : Contains (sent numbers older) (Draw d)). let w = sent_was_held numbers older d before in
     record { newer = e ∷ w.newer; older = w.older; split = ap (λ (s : List Step). e ∷ s) w.split; place = w.place; held = w.held })
-    (Contains-append_cases (sent_by_deed e.deed (host_at numbers older e.place)) (sent numbers older) (Draw d) c)
+    (Contains-append_cases (sent_by_deed e.event (host_at numbers older e.place)) (sent numbers older) (Draw d) c)

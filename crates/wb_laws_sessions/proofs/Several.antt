@@ -1,7 +1,7 @@
 -- Several deeds of one member, one after the other, as steps of a session.
-use Rattle.std.proofs.Common.{◌≡◌, ◌⊎◌, ◌<◌, ℕ, Bool, true, false, cond, List, [], ◌∷◌, ◌++◌, ◌∙◌, ap, append_assoc, arith, inl, inr, map, refl, subst, sym, ⊎_elim}
+use Rattle.std.proofs.Common.{◌≡◌, ◌⊎◌, ◌<◌, ℕ, Bool, cond, List, [], ◌∷◌, ◌++◌, ◌∙◌, ap, append_assoc, arith, inl, inr, map, refl, subst, sym, ⊎_elim}
 use Rattle.std.specs.Prelude.{Contains, nat_eq}
-use Rattle.std.proofs.lemmas.List.Elements.{Contains-append_cases, Contains-append_left, Contains-append_right}
+use Rattle.std.proofs.lemmas.List.Elements.{Contains-append_left, Contains-append_right}
 use Rattle.wb_names.specs.Arrivals.{Outcome, New, Again, Clash, Left}
 use Rattle.wb_names.specs.Values.{DrawopValue, NameValue}
 use Rattle.wb_names.proofs.Listings.{Contains-cases, Contains-here, Contains-none, Contains-there}
@@ -9,11 +9,16 @@ use Rattle.wb_codec.specs.declared.datagram.Datagram.{Datagram}
 use Rattle.wb_codec.specs.declared.datagram.Datagram.TheVariants.{Draw}
 use Rattle.wb_member.specs.Lines.{Line, after_line, after_lines, said_where, sent_by_line, sent_by_lines, Arrives, Says}
 use Rattle.wb_member.specs.Opened.{Opened, becomes}
-use Rattle.wb_laws_sessions.specs.Drawn.{AreHonest, IsAbove, WasHeld, drawn_at, drawn_by, new_where}
-use Rattle.wb_laws_sessions.specs.Sessions.{AreApart, Deed, Does, Step, after_deed, after_deeds, host_at, sent, sent_by_deed, sent_by_deeds, steps_then}
-use Rattle.wb_laws_sessions.proofs.Deeds.{deed_draws, number_after}
+use Rattle.wb_laws_sessions.specs.Drawn.{AreHonest, WasHeld, drawn_at}
+use Rattle.wb_laws_sessions.specs.Members.{member, drawn_by, new_where, Deed, Does, after_deed, sent_by_deed}
+use Rattle.wb_laws_machines.specs.Honest.{IsAbove, AreApart}
+use Rattle.wb_laws_sessions.specs.Sessions.{Step, after_deeds, host_at, sent, sent_by_deeds, steps_then}
+use Rattle.wb_laws_machines.proofs.Drawn as of
+use Rattle.wb_laws_machines.proofs.Mapped.{happen_sent, happen_state}
+use Rattle.wb_laws_sessions.proofs.Members.{member_is_lawful}
+use Rattle.wb_laws_sessions.proofs.Deeds.{deed_draws}
 use Rattle.wb_laws_sessions.proofs.Drawn.{drawn_cases, names_mean_one, once_held_was_drawn}
-use Rattle.wb_laws_sessions.proofs.Outcomes.{Found, found}
+use Rattle.wb_laws_machines.proofs.Outcomes.{Found, found}
 use Rattle.wb_laws_sessions.proofs.Sending.{there}
 
 -- ---- lines as deeds
@@ -32,29 +37,18 @@ sent_performed (line ∷ lines) host =
 module _ (numbers : ℕ → ℕ) where
   -- the member at a place after deeds of the one at a place
   pub after_all : (time place : ℕ) (deeds : List Deed) (older : List Step) (i : ℕ) (b : Bool) → nat_eq place i ≡ b → host_at numbers (steps_then time place deeds older) i ≡ cond b (after_deeds deeds (host_at numbers older i)) (host_at numbers older i)
-  after_all time place [] older i true e = refl
-  after_all time place [] older i false e = refl
-  after_all time place (deed ∷ deeds) older i true e =
-      after_all time place deeds (record { time = time; place = place; deed = deed } ∷ older) i true e
-      ∙ ap (λ (b : Bool). after_deeds deeds (cond b (after_deed deed (host_at numbers older i)) (host_at numbers older i))) e
-  after_all time place (deed ∷ deeds) older i false e =
-      after_all time place deeds (record { time = time; place = place; deed = deed } ∷ older) i false e
-      ∙ ap (λ (b : Bool). cond b (after_deed deed (host_at numbers older i)) (host_at numbers older i)) e
+  after_all time place = happen_state member numbers time place
 
   -- a member has the number of its place
   pub number_at : (steps : List Step) (i : ℕ) → (host_at numbers steps i).is.number ≡ numbers i
-  number_at [] i = refl
-  number_at (e ∷ older) i = by (number_at older i) (nat_eq e.place i) where
-    by : (host_at numbers older i).is.number ≡ numbers i → (b : Bool) → (cond b (after_deed e.deed (host_at numbers older i)) (host_at numbers older i)).is.number ≡ numbers i
-    by rest true = number_after e.deed (host_at numbers older i) ∙ rest
-    by rest false = rest
+  number_at = of.number_at member numbers member_is_lawful
 
 -- ---- a part of the steps
 
 pub then_split : (time place : ℕ) (deeds : List Deed) (older : List Step) → (front : List Step) × (steps_then time place deeds older ≡ front ++ older)
 then_split time place [] older = ([], refl)
 then_split time place (deed ∷ deeds) older =
-    let s : Step = record { time = time; place = place; deed = deed } in
+    let s : Step = record { time = time; place = place; event = deed } in
     let rest = then_split time place deeds (s ∷ older) in
     (rest.0 ++ s ∷ [], rest.1 ∙ sym (append_assoc rest.0 (s ∷ []) older))
 
@@ -62,25 +56,15 @@ then_split time place (deed ∷ deeds) older =
 
 pub sent_longer : (numbers : ℕ → ℕ) (front older : List Step) (v : Datagram) → Contains (sent numbers older) v → Contains (sent numbers (front ++ older)) v
 sent_longer numbers [] older v c = c
-sent_longer numbers (e ∷ front) older v c = Contains-append_right (sent_by_deed e.deed (host_at numbers (front ++ older) e.place)) (sent numbers (front ++ older)) v (sent_longer numbers front older v c)
+sent_longer numbers (e ∷ front) older v c = Contains-append_right (sent_by_deed e.event (host_at numbers (front ++ older) e.place)) (sent numbers (front ++ older)) v (sent_longer numbers front older v c)
 
 module _ (numbers : ℕ → ℕ) (time place : ℕ) where
   abbrev at : Deed → Step
-  at deed = record { time = time; place = place; deed = deed }
-
-  sent_later : (deeds : List Deed) (older : List Step) (v : Datagram) → Contains (sent numbers older) v → Contains (sent numbers (steps_then time place deeds older)) v
-  sent_later deeds older v c = let split = then_split time place deeds older in
-      subst (λ (s : List Step). Contains (sent numbers s) v) (sym split.1) (sent_longer numbers split.0 older v c)
+  at deed = record { time = time; place = place; event = deed }
 
   -- what deeds send is sent by their steps
   pub sent_then : (deeds : List Deed) (older : List Step) (v : Datagram) → Contains (sent_by_deeds deeds (host_at numbers older place)) v → Contains (sent numbers (steps_then time place deeds older)) v
-  sent_then [] older v c = absurd (Contains-none v c)
-  sent_then (deed ∷ deeds) older v c =
-      let host : Opened = host_at numbers older place in
-      ⊎_elim
-      (λ (now : Contains (sent_by_deed deed host) v). sent_later deeds (at deed ∷ older) v (Contains-append_left (sent_by_deed deed host) (sent numbers older) v now))
-      (λ (then : Contains (sent_by_deeds deeds (after_deed deed host)) v). sent_then deeds (at deed ∷ older) v (subst (λ (h : Opened). Contains (sent_by_deeds deeds h) v) (sym (there numbers (at deed) older)) then))
-      (Contains-append_cases (sent_by_deed deed host) (sent_by_deeds deeds (after_deed deed host)) v c)
+  sent_then = happen_sent member numbers time place
 
   -- ---- what is drawn
 

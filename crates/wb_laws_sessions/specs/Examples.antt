@@ -13,7 +13,9 @@ use Rattle.wb_member.specs.Lines.{Arrives, Calls, Says}
 use Rattle.wb_member.specs.Opened.{becomes, gaps_at}
 use Rattle.wb_member.specs.declared.calls.Call.TheVariants as calls
 use Rattle.wb_laws_sessions.specs.Drawn.{AreHonest}
-use Rattle.wb_laws_sessions.specs.Sessions.{AreApart, Deed, Does, Opens, Step, host_at, sent}
+use Rattle.wb_laws_sessions.specs.Sessions.{Step, host_at, sent}
+use Rattle.wb_laws_sessions.specs.Members.{Deed, Does, Opens}
+use Rattle.wb_laws_machines.specs.Honest.{AreApart}
 
 abbrev pub page : PageId
 page = record { creator = 10; number = 1 }
@@ -29,7 +31,7 @@ abbrev pub drawing : DrawopValue
 drawing = record { name = name_of page 10 1; time = 5; op = deletes }
 
 abbrev pub at : ℕ → ℕ → Deed → Step
-at time place deed = record { time = time; place = place; deed = deed }
+at time place deed = record { time = time; place = place; event = deed }
 
 abbrev pub opens : ℕ → Deed
 opens seed = Opens (record { c1 = 2; c2 = 2; d1 = 1; d2 = 1 }) 4 seed

@@ -1,5 +1,5 @@
 use Rattle.std.proofs.Common.{take}
-use Rattle.wb_feed.specs.Marks.{Files}
+use Rattle.wb_feed.specs.Inside.Filing.{Files}
 use Rattle.wb_feed.proofs.batch.file.Given as goal
 
 abbrev pub invariant-loop-i : goal.invariant-loop-i

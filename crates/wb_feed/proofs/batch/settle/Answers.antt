@@ -1,11 +1,11 @@
-use Rattle.std.proofs.Common.{rules, arith, ◌≡◌, ◌∙◌, get_or, None}
-use Rattle.wb_feed.proofs.Log.{loses_trans}
+use Rattle.std.proofs.Common.{rules, ◌≡◌, ◌∙◌, get_or, None}
+use Rattle.wb_feed.proofs.Rows.{one_more_loses}
 use Rattle.wb_feed.proofs.Drawops.{nothing}
 use Rattle.wb_feed.proofs.Filing.{rest_more, rest_filed, rest_keeps}
 use Rattle.wb_feed.proofs.batch.settle.Goals as goal
 
 pub returns-in_err-take_one-clause-kept : goal.returns-in_err-take_one-clause-kept
-returns-in_err-take_one-clause-kept c = loses_trans 0 0 0 _ _ _ (omega arith) (rest_keeps _ _ _ _ _ _ c.loop-i.invariant) c.take_one.ensures.kept
+returns-in_err-take_one-clause-kept c = one_more_loses _ _ _ _ _ c.index-arrived-i.result c.loop-i-test.true c.index-arrived-i.is (rest_keeps _ _ _ _ _ _ c.loop-i.invariant) c.take_one.ensures.kept
 
 pub returns-clause-kept : goal.returns-clause-kept
 returns-clause-kept c = rest_keeps _ _ _ _ _ _ c.loop-i.invariant

@@ -1,6 +1,6 @@
 use Rattle.crossbeam_channel.specs.Claims.{view, IsSeatAt}
 use Rattle.crossbeam_channel.specs.Ends.{receives_on}
-use Rattle.wb_feed.specs.Served.{Served}
+use Rattle.wb_feed.specs.Inside.Serving.{Served}
 use Rattle.wb_feed.proofs.worker.serve.Given as goal
 
 abbrev pub invariant-loop : goal.invariant-loop

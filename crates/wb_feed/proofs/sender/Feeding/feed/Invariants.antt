@@ -1,7 +1,6 @@
 use Rattle.std.proofs.Common.{◌≡◌}
 use Rattle.crossbeam_channel.specs.Claims.{view}
-use Rattle.wb_feed.specs.Sent.{HasArrived}
-use Rattle.wb_feed.specs.Sent.{Stays}
+use Rattle.wb_feed.specs.Inside.Sent.{HasArrived, Stays}
 use Rattle.wb_feed.proofs.sender.Feeding.feed.Given as goal
 
 abbrev pub invariant-loop-message : goal.invariant-loop-message

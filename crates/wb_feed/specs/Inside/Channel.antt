@@ -1,11 +1,12 @@
 -- The rule of the channel: what is sent is received in its order, each message once at most.
-use Rattle.std.specs.Prelude.{◌≡◌, ℕ, ◌+◌, ◌<◌, ◌≤◌, ◌==◌, Bool, true, cond, nat_lt, List, [], ◌∷◌, ◌++◌, length, slice_get, Some}
+use Rattle.std.specs.Prelude.{◌≡◌, ℕ, ◌+◌, ◌<◌, ◌≤◌, ◌==◌, Bool, true, cond, List, [], ◌∷◌, ◌++◌, length, slice_get, Some}
 use mathlib.Core.Option.{some}
 use lib.ListN.{get_elem?}
 use Rattle.wb_names.specs.Values.{DrawopValue}
 use Rattle.wb_feed.specs.declared.channel.Message.{Message}
 use Rattle.wb_feed.specs.declared.channel.Message.TheVariants.{Take, End}
 use Rattle.wb_feed.specs.declared.channel.ChannelView.{ChannelView}
+use Rattle.wb_feed.specs.Served.{once_below}
 
 abbrev pub channel_view : ℕ → Bool → List DrawopValue → List Message → ChannelView
 channel_view n b sent got = record { parts = n; sends = b; sent = sent; got = got }
@@ -29,10 +30,6 @@ spot p End = 0
 abbrev pub spots : ℕ → List Message → ℕ
 spots p [] = 0
 spots p (m ∷ ms) = spot p m + spots p ms
-
--- 1 below n, and else 0
-abbrev pub once_below : ℕ → ℕ → ℕ
-once_below p n = cond (nat_lt p n) 1 0
 
 -- the message has the drawop that was sent with its position
 abbrev pub IsRight : List DrawopValue → Message → Type 0

@@ -6,8 +6,8 @@ use Rattle.wb_feed.specs.declared.channel.ChannelView.{ChannelView}
 use Rattle.wb_feed.specs.declared.sender.Feeding.{Feeding}
 use Rattle.wb_feed.specs.declared.workers.WorkFault.{WorkFault}
 use Rattle.wb_feed.specs.declared.workers.WorkFault.TheVariants.{Start}
-use Rattle.wb_feed.specs.Channel.{channel_view}
-use Rattle.wb_feed.specs.Sent.{HasArrived}
+use Rattle.wb_feed.specs.Inside.Channel.{channel_view}
+use Rattle.wb_feed.specs.Inside.Sent.{HasArrived}
 
 -- the same, but that the pass knows v
 pub record IsWith (f : Feeding) (v : ChannelView) (g : Feeding) : Type 0 where
@@ -27,10 +27,10 @@ pub record IsReady (workers : ℕ) (f : Feeding) : Type 0 where
   pub arrived : f.arrived.items ≡ []
   pub going : f.going ≡ true
 
--- The source a was fed from, is b since, and r was answered: a is as it was if no thread could be started, and b has ended if
+-- The source a was fed from, is b since, and r was answered: nothing came if no thread could be started, and b has ended if
 -- all went well. `gives`, `most` and `has_ended` are its trait's
 pub record HasFed {A X : Type 0} (gives : A → List DrawopValue → A → Type 0) (most : A → ℕ) (has_ended : A → Bool) (f : Feeding) (a : A) (g : Feeding) (b : A) (r : Result X WorkFault) : Type 0 where
   pub channel : g.channel ≡ f.channel
   pub arrived : HasArrived gives most a f.arrived.items b g.arrived.items
   pub ended : OnOk r (has_ended b ≡ true)
-  pub untouched : r ≡ Err Start → b ≡ a
+  pub untouched : r ≡ Err Start → (b ≡ a) × (g.arrived.items ≡ f.arrived.items)

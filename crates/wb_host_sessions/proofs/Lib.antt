@@ -1,0 +1,6 @@
+mod Hosts
+mod Members
+mod Sessions
+mod Timers
+mod Clocks
+mod Examples

@@ -1,0 +1,5 @@
+use Rattle.wb_host_sessions.proofs.Sessions.{hosts_agree}
+use Rattle.wb_host_sessions.proofs.laws.hosts_agree.Goals as goal
+
+pub returns : goal.returns
+returns c = hosts_agree

@@ -1,0 +1,6 @@
+pub mod Hosts
+pub mod Members
+pub mod Sessions
+pub mod Timers
+pub mod Clocks
+pub mod Examples

@@ -1,0 +1,10 @@
+pub mod Traces
+pub mod Outcomes
+pub mod Names
+pub mod Sharing
+pub mod Drawn
+pub mod Agreeing
+pub mod Mapped
+pub mod Composed
+pub mod Honest
+pub mod Times

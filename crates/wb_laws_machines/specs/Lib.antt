@@ -1,0 +1,6 @@
+pub mod Machines
+pub mod Honest
+pub mod Agreement
+pub mod Laws
+pub mod Maps
+pub mod Times

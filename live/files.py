@@ -1,0 +1,63 @@
+"""What the page's server gives that is made before: the files of the page, as they are and packed, and the page that tells why there is none.
+
+A script or style stands under a name that has the digest of all of them: a browser keeps it for good, and asks for nothing but the page itself."""
+from __future__ import annotations
+
+import gzip
+import hashlib
+from html import escape
+from pathlib import Path
+from typing import Dict, List, NamedTuple
+
+PAGE = Path(__file__).resolve().parent / "ui"
+
+# what is served of that directory beside its index, by the end of the name
+KINDS = {".js": "text/javascript; charset=utf-8", ".css": "text/css; charset=utf-8"}
+
+HTML = "text/html; charset=utf-8"
+
+# what a browser may do with what it got: keep nothing; ask whether it is the same still; or keep it, since it never is another
+NOTHING, ASKING, FOR_GOOD = "no-store", "no-cache", "private, max-age=31536000, immutable"
+
+REFUSED = """<!DOCTYPE html>
+<html lang="en"><head><meta charset="utf-8"><meta name="viewport" content="width=device-width, initial-scale=1"><title>%(title)s</title></head>
+<body><main><h1>%(title)s</h1><p>%(why)s</p></main></body></html>
+"""
+
+# what people can do about it, by the status
+WHYS = {
+    403: ("This is not the address of a board", "Open the address that wb-live printed last, or scan its code again. Ask whoever began the board for it."),
+    404: ("There is no such page", "Open the address that wb-live printed, as it is."),
+    503: ("There is no room just now", "Open the page once more in a minute."),
+}
+
+
+class File(NamedTuple):
+    """Bytes that are served: of what kind, as they are and packed, what tells them from others, and what a browser may do with them."""
+
+    kind: str
+    body: bytes
+    packed: bytes
+    tag: str
+    keeping: str
+
+
+def file_of(kind: str, body: bytes, keeping: str) -> File:
+    return File(kind, body, gzip.compress(body, 6, mtime=0), '"%s"' % hashlib.sha256(body).hexdigest()[:16], keeping)
+
+
+def page_files(token: str) -> Dict[str, File]:
+    """The page under the path `/`, and its scripts and styles under theirs. The page names all scripts, so that a browser asks for them at once."""
+    bodies = {file.name: file.read_bytes() for file in sorted(PAGE.iterdir()) if file.suffix in KINDS}
+    digest = hashlib.sha256(b"".join(name.encode() + body for name, body in bodies.items())).hexdigest()[:12]
+    scripts: List[str] = ['<link rel="modulepreload" href="page/%s">' % name for name in bodies if name.endswith(".js")]
+    index = (PAGE / "index.html").read_text().replace("</head>", "\n".join([*scripts, "</head>"]), 1)
+    files = {"/page/%s/%s" % (digest, name): file_of(KINDS[Path(name).suffix], body, FOR_GOOD) for name, body in bodies.items()}
+    files["/"] = file_of(HTML, index.replace("__TOKEN__", token).replace('="page/', '="page/%s/' % digest).encode(), ASKING)
+    return files
+
+
+def refusal(status: int, fault: str) -> bytes:
+    """A page for whoever gets no board, with what to do and why."""
+    title, why = WHYS.get(status, ("The board can't be shown", "Open the address that wb-live printed once more."))
+    return (REFUSED % {"title": title, "why": "%s <small>(%s)</small>" % (why, escape(fault))}).encode()
