@@ -34,7 +34,7 @@ use Rattle.wb_dialog.proofs.Fronts.{begins_empty}
 use Rattle.wb_dialog.proofs.Numbers.{IsKept, stays_kept}
 
 -- Memory ran out before anything was printed.
-pub forgets : {U : Type 0} (old new : Option HostValue) (response : Kind → Response) → LeadsFrom {U = U} old new [] (Err unanswered.Memory) response
+pub forgets : (old new : Option HostValue) (response : Kind → Response) → LeadsFrom {U = Unit {0}} old new [] (Err unanswered.Memory) response
 forgets old new response s at = begins_empty _
 
 -- ---- when it is due
@@ -97,6 +97,10 @@ is_taken : (tuning : Tuning) (h : Host) (line : DriverLine) → IsNoKeep line �
 is_taken tuning h (Keep rate listen) none = absurd none
 is_taken tuning h line none = refl
 
+pub no_keep : (line : DriverLine) → ((rate listen : ℕ) → line ≡ Keep rate listen → ⊥) → IsNoKeep line
+no_keep (Keep rate listen) none = absurd (none rate listen refl)
+no_keep line none = tt
+
 pub leads_driven : {U : Type 0} (member : MemberValue) (board : Option BoardValue) (new : HostValue) (line : DriverLine) (written : List ℕ) (result : Result U Unanswered) → IsNoKeep line → DoesOpen (values.Driven member board) new written result (taken_by line)
     → LeadsOpen (values.Driven member board) new written result (λ tuning s. common_response tuning s (Ok line))
 leads_driven member board new line written result none did =
@@ -109,10 +113,10 @@ reads_driven member board new line written said result is did tuning (unjudged s
 reads_driven member board new line written said result is did tuning (judged h) at = absurd at
 
 -- It is not read.
-pub unread_driven : {U : Type 0} (member : MemberValue) (board : Option BoardValue) (line : List ℕ) (fault : Unanswered) → Parses {X = DriverLine} (Err fault) (line_of line)
-    → LeadsOpen {U = U} (values.Driven member board) (values.Driven member board) [] (Err fault) (λ tuning s. line_response tuning s line)
-unread_driven {U} member board line (unanswered.Refused e) is =
-    reads_driven member board (values.Driven member board) line [] (Err e) (Err (unanswered.Refused e)) is (driven {U = U} member board (values.Driven member board) [] (Err (unanswered.Refused e)) (Err e) (λ tuning h at. (refl, at, refl)))
+pub unread_driven : (member : MemberValue) (board : Option BoardValue) (line : List ℕ) (fault : Unanswered) → Parses {X = DriverLine} (Err fault) (line_of line)
+    → LeadsOpen {U = Unit {0}} (values.Driven member board) (values.Driven member board) [] (Err fault) (λ tuning s. line_response tuning s line)
+unread_driven member board line (unanswered.Refused e) is =
+    reads_driven {U = Unit {0}} member board (values.Driven member board) line [] (Err e) (Err (unanswered.Refused e)) is (driven {U = Unit {0}} member board (values.Driven member board) [] (Err (unanswered.Refused e)) (Err e) (λ tuning h at. (refl, at, refl)))
 unread_driven member board line unanswered.Memory is = λ tuning. forgets (Some (values.Driven member board)) (Some (values.Driven member board)) (λ s. line_response tuning s line)
 
 -- ---- a self-managing host
@@ -186,8 +190,8 @@ leads_judged m new line said written result is own did =
     (λ tuning h at. subst (Leads (judged h) (Some (values.Judged new)) written result) (sym (own_response tuning h line said own)) (acts h new written result (act said h) (did h at)))
 
 -- It is not read.
-pub unread_judged : {U : Type 0} (m : JudgedValue) (line : List ℕ) (fault : Untaken) → Reads {X = JudgedLine} (Err fault) (judged_line_of line) → LeadsOpen {U = U} (values.Judged m) (values.Judged m) [] (Err (unanswered_by fault)) (λ tuning s. line_response tuning s line)
-unread_judged m line (untaken.Line e) is = at_judged m line (Err e) is (values.Judged m) [] (Err (unanswered.Refused (refusals.Line e))) (λ tuning h at. (refl, at, refl))
+pub unread_judged : (m : JudgedValue) (line : List ℕ) (fault : Untaken) → Reads {X = JudgedLine} (Err fault) (judged_line_of line) → LeadsOpen {U = Unit {0}} (values.Judged m) (values.Judged m) [] (Err (unanswered_by fault)) (λ tuning s. line_response tuning s line)
+unread_judged m line (untaken.Line e) is = at_judged {U = Unit {0}} m line (Err e) is (values.Judged m) [] (Err (unanswered.Refused (refusals.Line e))) (λ tuning h at. (refl, at, refl))
 unread_judged m line untaken.Memory is = λ tuning. forgets (Some (values.Judged m)) (Some (values.Judged m)) (λ s. line_response tuning s line)
 
 -- ---- a line that begins to judge
@@ -233,5 +237,5 @@ begins_not old new tuning line written result is did s at = subst (Leads s new w
 pub begins : {U : Type 0} (old new : Option HostValue) (tuning : Tuning) (line written : List ℕ) (said : JudgeLine) (result : Result U Unanswered) → Some (Ok said) ≡ judge_line_of line → LeadsFrom old new written result (judge_response tuning said) → LeadsFrom old new written result (λ s. response_to tuning s line)
 begins old new tuning line written said result is did s at = subst (Leads s new written result) (ap (response_by tuning s line) is) (did s at)
 
-pub unread : {U : Type 0} (host : Option HostValue) (tuning : Tuning) (line : List ℕ) (e : LineFault) → Some (Err e) ≡ judge_line_of line → LeadsFrom {U = U} host host [] (Err (unanswered.Refused (refusals.Line e))) (λ s. response_to tuning s line)
-unread host tuning line e is s at = subst (Leads s host [] (Err (unanswered.Refused (refusals.Line e)))) (ap (response_by tuning s line) is) (refl, at, refl)
+pub unread : (host : Option HostValue) (tuning : Tuning) (line : List ℕ) (e : LineFault) → Some (Err e) ≡ judge_line_of line → LeadsFrom {U = Unit {0}} host host [] (Err (unanswered.Refused (refusals.Line e))) (λ s. response_to tuning s line)
+unread host tuning line e is s at = subst (Leads {U = Unit {0}} s host [] (Err (unanswered.Refused (refusals.Line e)))) (ap (response_by tuning s line) is) (refl, at, refl)

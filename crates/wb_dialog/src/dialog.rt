@@ -87,18 +87,30 @@ impl Dialog {
     {
         match self.host.take() {
             Some(Host::Kept(kept)) => Some(kept),
-            host => {
-                self.host = host;
+            Some(Host::Driven { member, board }) => {
+                self.put(Host::Driven { member, board });
                 None
             }
+            Some(Host::Judged(member)) => {
+                self.put(Host::Judged(member));
+                None
+            }
+            None => None,
         }
+    }
+
+    /// From now on this is the host. What was there is dropped here alone.
+    fn put(&mut self, host: Host)
+        ensures { self.new ≡ record { tuning = self.old.tuning; host = Some host } }
+    {
+        self.host = Some(host);
     }
 
     /// From now on this self-managing member is the host.
     pub fn put_kept(&mut self, kept: KeptMember)
         ensures { self.new ≡ with_kept kept self.old }
     {
-        self.host = Some(Host::Kept(kept));
+        self.put(Host::Kept(kept));
     }
 
     /// Takes the member out of a judged host, for calls of its own. It is put back by `put_member`
@@ -111,10 +123,15 @@ impl Dialog {
     {
         match self.host.take() {
             Some(Host::Judged(member)) => Some(member),
-            host => {
-                self.host = host;
+            Some(Host::Driven { member, board }) => {
+                self.put(Host::Driven { member, board });
                 None
             }
+            Some(Host::Kept(kept)) => {
+                self.put(Host::Kept(kept));
+                None
+            }
+            None => None,
         }
     }
 
@@ -122,7 +139,7 @@ impl Dialog {
     pub fn put_member(&mut self, member: JudgedMember)
         ensures { self.new ≡ with_member member self.old }
     {
-        self.host = Some(Host::Judged(member));
+        self.put(Host::Judged(member));
     }
 
     /// What a line does before a board is open.
@@ -150,7 +167,8 @@ impl Dialog {
                 },
             ) => {
                 let board = Board::new(*member, *cells, *seed);
-                self.host = Some(Host::open(alloc, board, self.tuning)?);
+                let host = Host::open(alloc, board, self.tuning)?;
+                self.put(host);
                 Ok(())
             }
             DriverLine::Version => {
@@ -190,7 +208,7 @@ impl Dialog {
             return Err(Unanswered::Refused(Refusal::Line(LineFault::NoBoard)));
         };
         let (next, result) = host.judge(alloc, self.tuning, line);
-        self.host = Some(next);
+        self.put(next);
         result
     }
 
@@ -211,7 +229,7 @@ impl Dialog {
             return self.take_first(alloc, content, output);
         };
         let (next, result) = host.take(alloc, content, output);
-        self.host = Some(next);
+        self.put(next);
         result
     }
 

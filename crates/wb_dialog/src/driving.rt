@@ -100,7 +100,6 @@ fn drive(
 }
 
 /// What it does for a line.
-#[tactic(auto, using(crate::proofs::EachKind::keeps_driven, crate::proofs::EachKind::leads_driven))]
 fn take(
     alloc: Global,
     member: Member,

@@ -6,8 +6,8 @@ use Rattle.wb_dialog.proofs.judged.take_judged.Goals as goal
 
 pub returns-in-Ok : goal.returns-in-Ok
 returns-in-Ok c =
-    let did = c.answer.ensures.text in
+    let did = c.answer-result.ensures.text in
     let other : c.in-Ok.line ≡ Common → ⊥ = grind (arith, common_steps) in
     record {
-      text = (did.0, did.1, leads_judged c.args.member c.answer.new.member c.args.content.now c.in-Ok.line did.0 c.answer.result c.in-Ok.ensures.line other did.2);
+      text = (did.0, did.1, leads_judged c.args.member c.answer-result.new.member c.args.content.now c.in-Ok.line did.0 c.answer-result.result c.in-Ok.ensures.line other did.2);
     }
