@@ -1,7 +1,7 @@
 """What a page shows, as the host says it: it is asked for what the page shows otherwise than when it was asked last."""
 from __future__ import annotations
 
-from itertools import islice
+from itertools import dropwhile, islice
 from typing import TYPE_CHECKING, Dict, Iterable, List, NamedTuple, Optional, Set, Tuple
 
 from .drawn import Sheet
@@ -72,9 +72,9 @@ class Showing:
         added = [(place, held.get(name) or Drawop(words)) for place, name, words in since.shown if name not in stays]
         gone, names = since.hidden & self.names - stays, stays.union(drawop.name for _, drawop in added)
         new = list(islice(held.values(), self.seen, None))
-        # what a hidden drawing's eraser did before may come after that
-        late = [drawop for drawop in filter(None, map(sheet.after, new)) if not drawop.is_drawing() and drawop.aimed() in self.hidden]
-        changed = touched(late + new)
+        # What a hidden drawing's eraser did before may come after that. From the first such on the hidden ones are told anew, in their order.
+        late = {drawop.aimed() for drawop in filter(None, map(sheet.after, new)) if not drawop.is_drawing()}
+        changed = touched(new, dropwhile(lambda name: name not in late, self.hidden))
         hidden = [erased_on(sheet, held[name]) for name in changed if name not in names and name in held and held[name].is_drawing()]
         change = Change([name for name in changed if name in gone or name in self.hidden], added, hidden)
         self.held, self.seen = since.held, len(held)
@@ -103,9 +103,9 @@ def erased_on(sheet: Sheet, drawop: Drawop) -> Erased:
     return Erased(drawop, by, sheet.before(by) if by else None)
 
 
-def touched(drawops: Iterable[Drawop]) -> Dict[Name, None]:
-    """The names of the drawings that these drew, deleted or restored, in the order in which the last of them did so."""
-    names: Dict[Name, None] = {}
+def touched(drawops: Iterable[Drawop], before: Iterable[Name]) -> Dict[Name, None]:
+    """These names, and those of the drawings that these drew, deleted or restored, in the order in which the last of them did so."""
+    names = dict.fromkeys(before)
     for drawop in drawops:
         name = drawop.name if drawop.is_drawing() else drawop.aimed()
         names.pop(name, None)

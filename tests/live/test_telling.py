@@ -96,6 +96,10 @@ def test_showing(facts: Facts) -> None:
     words = ["draw 8 7/1 %d %d %s" % (seq, seq + 20, what) for seq, what in enumerate(("delete 7 1", "delete 8 1", "restore 7 1", "delete 7 1"), 7)]
     facts("two are deleted, one of them twice", renew(16, ["hidden 7 1", "hidden 8 1"], *words), ([(8, PAGE, 1), (7, PAGE, 1)], [], [third, first]))
     facts("what was deleted last is the last that is hidden", state(), ([], [second, late, fourth, third, first]))
+    fifth, sixth, before = drawing(5, 1, 30), drawing(5, 2, 32), drawing(6, 1, 31)
+    renew(20, [], fifth, "draw 6 7/1 2 31 delete 5 1", sixth, "draw 8 7/1 11 33 delete 5 2")
+    facts("what its eraser did before comes late", renew(21, ["shown 0 " + before], before), ([(5, PAGE, 1), (5, PAGE, 2)], [(0, before)], [fifth, sixth]))
+    facts("what is hidden stays in its order", state()[1][-2:], [fifth, sixth])
 
 
 def test_turns(facts: Facts) -> None:

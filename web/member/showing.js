@@ -39,10 +39,10 @@ export class Showing {
     const { drawops } = sheet, { held, hidden: taken, shown } = await board.since(this.page, this.held), told = new Set(shown.map(([, { name }]) => name));
     const gone = new Set(taken.filter((name) => this.names.has(name) && !told.has(name)));
     const added = shown.flatMap(([place, drawop]) => (this.names.has(drawop.name) ? [] : [/** @type {Placed} */ ([place, drawops.get(drawop.name) ?? drawop])]));
-    const fresh = [...drawops.values()].slice(this.seen), isLate = (/** @type {Drawop} */ drawop) => !isDrawing(drawop) && this.hidden.has(aimedBy(drawop));
-    // what a hidden drawing's eraser did before may come after that
-    const late = fresh.flatMap((drawop) => sheet.after(drawop) ?? []).filter(isLate);
-    const changed = touched([...late, ...fresh]).flatMap((name) => drawops.get(name) ?? []).filter(isDrawing);
+    // What a hidden drawing's eraser did before may come after that. From the first such on the hidden ones are told anew, in their order.
+    const fresh = [...drawops.values()].slice(this.seen), names = [...this.hidden.keys()];
+    const late = new Set(fresh.flatMap((drawop) => sheet.after(drawop) ?? []).filter((drawop) => !isDrawing(drawop)).map(aimedBy)), first = names.findIndex((name) => late.has(name));
+    const changed = touched(fresh, first < 0 ? [] : names.slice(first)).flatMap((name) => drawops.get(name) ?? []).filter(isDrawing);
     const hidden = changed.filter(({ name }) => !told.has(name)).map((drawop) => erasedOn(sheet, drawop)), before = changed.filter(({ name }) => gone.has(name) || this.hidden.has(name));
     [this.held, this.seen] = [held, drawops.size];
     this.putIn(gone, added, hidden);
@@ -84,11 +84,10 @@ function erasedOn(sheet, drawop) {
   return { ...drawop, by, before: by && sheet.before(by) };
 }
 
-/** The names of what these drew, deleted or restored, in the order in which the last of them did so.
- * @param {Drawop[]} drawops */
-function touched(drawops) {
-  /** @type {Set<string>} */
-  const names = new Set();
+/** These names, and those of what these drew, deleted or restored, in the order in which the last of them did so.
+ * @param {Drawop[]} drawops @param {string[]} before */
+function touched(drawops, before) {
+  const names = new Set(before);
   for (const drawop of drawops) {
     const aimed = isDrawing(drawop) ? drawop.name : aimedBy(drawop);
     names.delete(aimed);
