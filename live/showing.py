@@ -72,7 +72,7 @@ class Showing:
         added = [(place, held.get(name) or Drawop(words)) for place, name, words in since.shown if name not in stays]
         gone, names = since.hidden & self.names - stays, stays.union(drawop.name for _, drawop in added)
         new = list(islice(held.values(), self.seen, None))
-        # What a hidden drawing's eraser did before may come after that. From the first such on the hidden ones are told anew, in their order.
+        # What a hidden drawing's eraser did before may come after that. Then views get the hidden ones from there on anew, in their order.
         late = {drawop.aimed() for drawop in filter(None, map(sheet.after, new)) if not drawop.is_drawing()}
         changed = touched(new, dropwhile(lambda name: name not in late, self.hidden))
         hidden = [erased_on(sheet, held[name]) for name in changed if name not in names and name in held and held[name].is_drawing()]

@@ -39,7 +39,7 @@ export class Showing {
     const { drawops } = sheet, { held, hidden: taken, shown } = await board.since(this.page, this.held), told = new Set(shown.map(([, { name }]) => name));
     const gone = new Set(taken.filter((name) => this.names.has(name) && !told.has(name)));
     const added = shown.flatMap(([place, drawop]) => (this.names.has(drawop.name) ? [] : [/** @type {Placed} */ ([place, drawops.get(drawop.name) ?? drawop])]));
-    // What a hidden drawing's eraser did before may come after that. From the first such on the hidden ones are told anew, in their order.
+    // What a hidden drawing's eraser did before may come after that. Then views get the hidden ones from there on anew, in their order.
     const fresh = [...drawops.values()].slice(this.seen), names = [...this.hidden.keys()];
     const late = new Set(fresh.flatMap((drawop) => sheet.after(drawop) ?? []).filter((drawop) => !isDrawing(drawop)).map(aimedBy)), first = names.findIndex((name) => late.has(name));
     const changed = touched(fresh, first < 0 ? [] : names.slice(first)).flatMap((name) => drawops.get(name) ?? []).filter(isDrawing);
