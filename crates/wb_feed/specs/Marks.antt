@@ -1,4 +1,4 @@
--- Which of the drawops arrived were accepted, with which replies, and what is taken again of the others.
+-- Marks at places of a list of drawops.
 use Rattle.std.specs.Prelude.{◌≡◌, ℕ, ◌<◌, ◌==◌, ◌||◌, Bool, false, cond, List, [], ◌∷◌, length, slice_index_or}
 use Rattle.wb_names.specs.Values.{DrawopValue}
 
@@ -12,7 +12,7 @@ unmarked [] ds = []
 unmarked (m ∷ ms) [] = []
 unmarked (m ∷ ms) (d ∷ ds) = cond m (unmarked ms ds) (d ∷ unmarked ms ds)
 
--- the places that stand in the list are marked
+-- there are `n` marks, and those at these places are set
 pub record Marks (places : List ℕ) (n : ℕ) (marks : List Bool) : Type 0 where
   pub long : length marks ≡ n
   pub each : (p : ℕ) → p < n → slice_index_or marks p false ≡ has p places

@@ -215,6 +215,7 @@ module _ (m : BTreeMap Start ℕ) (ordered : IsOrdered start_cmp m) (ranges : Ar
       let nothing : (n : ℕ) → holds (ranges_of m.entries) (name_of page source n) ≡ true → ⊥ = λ n h. let c = covers_name (name_of page source n) m ordered h in let over = none c.0 c.1 c.2 in let a = (ranges.apart page source).filled c.0 c.1 c.2 in let b = (ranges.apart page source).fits c.0 c.1 c.2 in absurd (omega arith) in record {
         whole = λ n low from to. absurd (⊎_elim (λ (e : high ≡ 0). omega arith) (nothing high) top.reached);
         bound = omega arith;
+        positive = λ some. absurd (⊎_elim (λ (e : high ≡ 0). omega arith) (nothing high) top.reached);
         below = nothing 0;
       }
 
@@ -225,6 +226,7 @@ module _ (m : BTreeMap Start ℕ) (ordered : IsOrdered start_cmp m) (ranges : Ar
       let full = (ranges.apart page source).filled first last at in record {
         whole = λ n low from to. name_covered (name_of page source n) m (first, last, at, from, omega arith);
         bound = omega arith;
+        positive = λ _. (ranges.apart page source).positive first last at;
         below = λ h. let c = covers_name (name_of page source (first - 1)) m ordered h in let low = (ranges.apart page source).positive first last at in let under = c.3 in let over = c.4 in let apart = (ranges.apart page source).apart c.0 c.1 first last c.2 at (omega arith) in omega arith;
       }
 
@@ -264,5 +266,6 @@ whole_is ranges page source first from history held =
     }) in record {
       whole = λ n low here to. there n (w.whole n low here to);
       bound = w.bound;
+      positive = w.positive;
       below = λ h. w.below (back _ h);
     }
