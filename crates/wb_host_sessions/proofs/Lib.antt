@@ -4,3 +4,4 @@ mod Sessions
 mod Timers
 mod Clocks
 mod Examples
+pub mod Digests

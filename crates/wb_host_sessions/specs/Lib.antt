@@ -4,3 +4,4 @@ pub mod Sessions
 pub mod Timers
 pub mod Clocks
 pub mod Examples
+pub mod Digests

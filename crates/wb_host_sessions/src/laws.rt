@@ -1,6 +1,7 @@
 //! Laws of machines. Each function does nothing: its contract is a law, for proofs to cite.
 
 ghost use Rattle.wb_host_sessions.specs.Clocks.{JudgedKeepTime};
+ghost use Rattle.wb_host_sessions.specs.Digests.{HostsHaveOneDigest};
 ghost use Rattle.wb_host_sessions.specs.Examples.{IsMixed};
 ghost use Rattle.wb_host_sessions.specs.Timers.{TimersTellHoldings};
 ghost use Rattle.wb_host_sessions.specs.Sessions.{HostsAgree, HostsAreMembers, NothingIsInvented};
@@ -9,6 +10,12 @@ ghost use Rattle.wb_host_sessions.specs.Sessions.{HostsAgree, HostsAreMembers, N
 /// same there, at any two moments of a session, whatever is forged on other pages.
 pub fn hosts_agree()
     ensures { HostsAgree }
+{}
+
+/// Two hosts, of whatever kinds, that have one report of a page, and no gaps there, have one digest of
+/// it. Else somebody forged, two drew under one number, or a record was lost.
+pub fn hosts_have_one_digest()
+    ensures { HostsHaveOneDigest }
 {}
 
 /// What a host holds of a page its source drew, and each name there means one drawop.
