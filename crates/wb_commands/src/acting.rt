@@ -57,6 +57,7 @@ fn perform(
 
 /// Does what a line says, once its batch has ended. A refused line changes nothing and prints
 /// nothing. One that is skipped, that opens a board or that hands in a drawop does nothing here.
+/// After `Untaken::Memory` nothing is promised of the member: give it up.
 pub fn act(
     alloc: Global,
     member: &mut Member,

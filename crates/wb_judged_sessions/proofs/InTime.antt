@@ -29,11 +29,12 @@ use Rattle.wb_judging.proofs.AsKept.{sends_as_kept}
 use Rattle.wb_judging.proofs.MembersIn.{needed_is_handed_in}
 use Rattle.wb_judging.proofs.Numbers.{me_judging}
 use Rattle.wb_laws_kept.specs.Sessions.{CallAt, Handed, kept_at}
-use Rattle.wb_kept_progress.specs.Since.{IsHandedIn, IsSpared, IsTimelyWithStarts, WasSentBy as WasKeptSent, called_at as kept_called_at}
+use Rattle.wb_kept_progress.specs.Since.{IsHandedIn, IsSpared, IsTimelyWithStartsBut, WasSentBy as WasKeptSent, called_at as kept_called_at}
+use Rattle.wb_kept_progress.proofs.Since.{always_short_since}
 use Rattle.wb_judged_sessions.specs.Sessions.{JudgedCall, JudgedCallAt, Starts, Takes, Tunes, judged_at, kept_calls, plain_line}
 use Rattle.wb_laws_machines.specs.Maps.{plain}
 use Rattle.wb_judged_sessions.specs.Terms.{AreTaken, IsLineTaken, IsTaken}
-use Rattle.wb_judged_sessions.specs.Timely.{AreInOrder, Arrives, IsNoStart, IsTimely, JudgedIsTimely}
+use Rattle.wb_judged_sessions.specs.Timely.{AreInOrder, Arrives, IsNoStart, IsTimelyBut, JudgedAlwaysShort, JudgedIsTimely}
 use Rattle.wb_judged_sessions.proofs.Drawn.{DrawsNone, came_draws}
 use Rattle.wb_judged_sessions.proofs.Echoes.{call_sends, plain_again}
 use Rattle.wb_judged_sessions.proofs.Kept.{at, calls_split, judged_is_kept}
@@ -123,7 +124,7 @@ call_says (Tunes constants) steady h own taken v c = absurd (Contains-none v c)
 
 -- ---- the terms
 
-module _ (numbers : ℕ → ℕ) (terms : Terms) (calls : List JudgedCallAt) (s : IsTimely numbers terms calls) where
+module _ {Delays : Type 0} (numbers : ℕ → ℕ) (terms : Terms) (calls : List JudgedCallAt) (s : IsTimelyBut (λ newer base i j by v. Arrives numbers newer base j by v) Delays numbers terms calls) where
   abbrev kept : List CallAt
   kept = kept_calls numbers calls
 
@@ -322,7 +323,7 @@ module _ (numbers : ℕ → ℕ) (terms : Terms) (calls : List JudgedCallAt) (s 
   room_all newer [] i split live late = absurd (omega (arith, late))
   room_all newer (e ∷ older) i split live late = room_kept newer older e split late i live
 
-  keeps_to_times : IsTimelyWithStarts numbers terms kept
+  keeps_to_times : IsTimelyWithStartsBut Delays numbers terms kept
   keeps_to_times = record {
     apart = s.apart;
     taken = taken_kept numbers calls s.taken;
@@ -340,3 +341,20 @@ module _ (numbers : ℕ → ℕ) (terms : Terms) (calls : List JudgedCallAt) (s 
 
 pub judged_is_timely : JudgedIsTimely
 judged_is_timely numbers terms calls s = keeps_to_times numbers terms calls s
+
+pub judged_always_short : JudgedAlwaysShort
+judged_always_short numbers terms calls s = record {
+  apart = s.apart;
+  taken = s.taken;
+  order = s.order;
+  covered = s.covered;
+  delays = (always_short_since numbers terms (kept_calls numbers calls) (keeps_to_times numbers terms calls s)).delays;
+  fitting = s.fitting;
+  alone = s.alone;
+  drawn = s.drawn;
+  recalled = s.recalled;
+  soon = s.soon;
+  room = s.room;
+  delivered = s.delivered;
+  fresh = s.fresh;
+}

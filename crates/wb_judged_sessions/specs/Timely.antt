@@ -27,7 +27,7 @@ use Rattle.wb_kept_progress.specs.Agreement.{LookAlike}
 use Rattle.wb_kept_progress.specs.Crowded.{crowded_by, spent_in}
 use Rattle.wb_kept_progress.specs.Filling.{OnlyHolesAreLacked, filled_by}
 use Rattle.wb_kept_progress.specs.Rounds.{OneLacksAtMost, PlacesAreFilled, rounds_by}
-use Rattle.wb_kept_progress.specs.Since.{GoByShortSince, IsTimelyWithStarts, hosts_of, since}
+use Rattle.wb_kept_progress.specs.Since.{DelaysAreShortSince, GoByShortSince, IsTimelyWithStarts, hosts_of, since}
 use Rattle.wb_kept_progress.specs.Whole.{AreSoon, AreWithin, HolesAreHeld, IsHeldBySome, LackAtMost, NewAreKept, ReportWithin, Sizes, WaitAtMost, minute, request_span, whole_by}
 use Rattle.wb_judged_sessions.specs.Sessions.{JudgedCall, JudgedCallAt, Starts, Takes, Tunes, judged_at, kept_calls}
 use Rattle.wb_judged_sessions.specs.Terms.{AreTaken, IsSession}
@@ -91,13 +91,13 @@ pub record WasSentBy (numbers : ℕ → ℕ) (older : List JudgedCallAt) (time w
 -- Before `quiet` programs start and end as they like, and the network does what it likes. From then on live members alone are called, and in time, each
 -- of their boards has a free cell, nobody draws, and no line of a record is handed in. What the one at a place sends comes to each other one in time, in a
 -- way that is stated, among newer calls over the older ones. What a judge lets in once all that was on its way has arrived was sent shortly before; what it
--- drops may be anything.
-pub record IsTimelyBy (Arrived : (newer base : List JudgedCallAt) (i j by : ℕ) → Datagram → Type 0) (numbers : ℕ → ℕ) (terms : Terms) (calls : List JudgedCallAt) : Type 0 where
+-- drops may be anything. Of delays something is asked that is stated.
+pub record IsTimelyBut (Arrived : (newer base : List JudgedCallAt) (i j by : ℕ) → Datagram → Type 0) (Delays : Type 0) (numbers : ℕ → ℕ) (terms : Terms) (calls : List JudgedCallAt) : Type 0 where
   pub apart : AreApart numbers
   pub taken : AreTaken numbers calls
   pub order : AreInOrder calls
   pub covered : terms.drift ≤ terms.late
-  pub delays : (MOST_DELAY ≤ terms.far) ⊎ GoByShortSince numbers terms (kept_calls numbers calls)
+  pub delays : Delays
   pub fitting : (i : ℕ) → Contains terms.live i → AreFittingSince terms numbers i calls
   pub alone : (newer older : List JudgedCallAt) (e : JudgedCallAt) → calls ≡ newer ++ e ∷ older → terms.quiet < e.time → Contains terms.live e.place × IsNoStart e.call
   pub drawn : (newer older : List JudgedCallAt) (e : JudgedCallAt) (now : ℕ) (page : PageId) (op : Op) → calls ≡ newer ++ e ∷ older → terms.quiet < e.time → e.call ≢ Takes (UserDrew now page op)
@@ -111,6 +111,10 @@ pub record IsTimelyBy (Arrived : (newer base : List JudgedCallAt) (i j by : ℕ)
   pub fresh : (newer older : List JudgedCallAt) (e : JudgedCallAt) (now : ℕ) (o : Origin) (v : Datagram) → calls ≡ newer ++ e ∷ older → settled_by terms < e.time → e.call ≡ Takes (CameFrom now o v)
       → handed (CameFrom now o v) (judged_at numbers older e.place) ≡ Came now v → WasSentBy numbers older e.time terms.delivery v
 
+-- It is what a session of self-managing members is asked.
+abbrev pub IsTimelyBy : ((newer base : List JudgedCallAt) (i j by : ℕ) → Datagram → Type 0) → (ℕ → ℕ) → Terms → List JudgedCallAt → Type 0
+IsTimelyBy Arrived numbers terms calls = IsTimelyBut Arrived ((MOST_DELAY ≤ terms.far) ⊎ DelaysAreShortSince numbers terms (kept_calls numbers calls)) numbers terms calls
+
 -- It comes as a member's.
 abbrev pub IsTimely : (ℕ → ℕ) → Terms → List JudgedCallAt → Type 0
 IsTimely numbers terms calls = IsTimelyBy (λ newer base i j by v. Arrives numbers newer base j by v) numbers terms calls
@@ -120,6 +124,11 @@ IsTimely numbers terms calls = IsTimelyBy (λ newer base i j by v. Arrives numbe
 -- As a session of self-managing members it keeps to times.
 abbrev pub JudgedIsTimely : Type 0
 JudgedIsTimely = (numbers : ℕ → ℕ) (terms : Terms) (calls : List JudgedCallAt) → IsTimely numbers terms calls → IsTimelyWithStarts numbers terms (kept_calls numbers calls)
+
+-- Of delays it is enough that none is above `far` since the last starts.
+abbrev pub JudgedAlwaysShort : Type 0
+JudgedAlwaysShort = (numbers : ℕ → ℕ) (terms : Terms) (calls : List JudgedCallAt)
+    → IsTimelyBut (λ newer base i j by v. Arrives numbers newer base j by v) (GoByShortSince numbers terms (kept_calls numbers calls)) numbers terms calls → IsTimely numbers terms calls
 
 -- It becomes whole, whoever started anew before: after a stated time each live member holds what one of them held. The sizes are those of the boards
 -- and policies of the members, since the last start of each.

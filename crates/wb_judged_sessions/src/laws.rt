@@ -17,7 +17,7 @@ ghost use Rattle.wb_judged_sessions.specs.Acquainted.{IsAnswered, TwinsHaveMet};
 ghost use Rattle.wb_judged_sessions.specs.Sessions.{DrawsAsKept, JudgedIsKept, PlainIsTheSame};
 ghost use Rattle.wb_judged_sessions.specs.SetBack.{IsGivenAhead, IsSetBack, IsSetBackTooFar};
 ghost use Rattle.wb_judged_sessions.specs.Soon.{JudgedBecomeWholeAnyway, JudgedBecomeWholeSoon};
-ghost use Rattle.wb_judged_sessions.specs.Timely.{JudgedAgree, JudgedBecomeWhole, JudgedBecomeWholeByRounds, JudgedBecomeWholeInCrowds, JudgedFillHoles, JudgedIsTimely};
+ghost use Rattle.wb_judged_sessions.specs.Timely.{JudgedAgree, JudgedAlwaysShort, JudgedBecomeWhole, JudgedBecomeWholeByRounds, JudgedBecomeWholeInCrowds, JudgedFillHoles, JudgedIsTimely};
 ghost use Rattle.wb_judged_sessions.specs.Twins.{AnswersShowTwins, TwinsAreRemembered, TwinsSee, TwinsStay};
 ghost use Rattle.wb_judged_sessions.specs.Hushing.{RepairsAllTheSame, RequestsAllTheSame};
 ghost use Rattle.wb_judged_sessions.specs.Unhushed.{FirmForItsTurn, RepairsAreSent, RequestsAreSent, TurnsAreFirm};
@@ -84,9 +84,11 @@ pub fn two_judged_members_share()
 
 /// If from some time on nobody draws or starts, nothing is lost, drivers tick in time, and each two
 /// members that go on know each other, a session of judged members keeps to times as one of
-/// self-managing members, whoever started anew before.
+/// self-managing members, whoever started anew before. Of delays it is enough that none is above the
+/// bound since the last starts.
 pub fn judged_sessions_keep_to_times()
-    ensures { JudgedIsTimely }
+    ensures timely { JudgedIsTimely }
+    ensures short { JudgedAlwaysShort }
 {}
 
 /// So it becomes whole: each member that goes on comes to hold, by the time of the law

@@ -69,7 +69,7 @@ module _ (hosts : ℕ → Opening) (terms : Terms) (trace : List TimedLine) (wai
 
   new_comes : ask.level ≡ 0 → Comes ⊎ IsGivenUpNew
   new_comes new =
-      let w = was_asked hosts terms trace timely front back i n ask split live stands new in
+      let w = was_asked hosts terms trace timely front back i n ask split (let s = settled in omega (arith, s)) live stands new in
       let by = line_by back w.newer w.older w.x (order_of front back (subst AreInOrder split timely.order)) w.split in
       let due_by = w.due in
       let after = settled in

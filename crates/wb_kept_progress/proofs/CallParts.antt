@@ -1,6 +1,7 @@
 -- Parts of a trace of calls, and of the lines that are performed in them.
 use Rattle.std.proofs.Common.{◌≡◌, ℕ, ◌<◌, ◌≤◌, Bool, true, false, cond, List, [], ◌∷◌, ◌++◌, ◌∙◌, ap, arith, refl, subst, sym, ⊎_elim, true≢false}
 use Rattle.std.specs.Prelude.{◌⊎◌, Option, Some, None, min, nat_le}
+use Rattle.std.proofs.lemmas.Bool.{le-leb, lt-leb}
 use Rattle.std.proofs.lemmas.Bool.Decides.{leb_tells}
 use Rattle.wb_names.specs.Values.{NameValue}
 use Rattle.wb_member.specs.Judged.{holds}
@@ -54,19 +55,38 @@ lines_in_order time place [] older le order = order
 lines_in_order time place (line ∷ lines) older le order = lines_in_order time place lines (record { time = time; place = place; line = line } ∷ older) (omega arith) (le, order)
 
 -- a part up to a time is within each part that ends later
-until_within : (s : ℕ) (part : List Performed) → (middle : List Performed) × (part ≡ middle ++ until s part)
+pub until_within : (s : ℕ) (part : List Performed) → (middle : List Performed) × (part ≡ middle ++ until s part)
 until_within s [] = ([], refl)
 until_within s (e ∷ older) = by (until_within s older) (nat_le e.time s) where
   by : (middle : List Performed) × (older ≡ middle ++ until s older) → (b : Bool) → (middle : List Performed) × (e ∷ older ≡ middle ++ cond b (e ∷ older) (until s older))
   by rest true = ([], refl)
   by rest false = (e ∷ rest.0, ap (λ (t : List Performed). e ∷ t) rest.1)
 
-until_front : (s : ℕ) (front part : List Performed) → AreInOrder (front ++ part) → s < time_of part → until s (front ++ part) ≡ until s part
+pub until_by : (s : ℕ) (part : List Performed) → time_of (until s part) ≤ s
+until_by s [] = omega arith
+until_by s (e ∷ older) = by (until_by s older) (nat_le e.time s) (leb_tells e.time s) where
+  by : time_of (until s older) ≤ s → (b : Bool) → ((b ≡ true) × (e.time ≤ s)) ⊎ ((b ≡ false) × (s < e.time)) → time_of (cond b (e ∷ older) (until s older)) ≤ s
+  by rest true tells = ⊎_elim (λ yes. yes.1) (λ no. absurd (true≢false no.0)) tells
+  by rest false tells = rest
+
+pub until_front : (s : ℕ) (front part : List Performed) → AreInOrder (front ++ part) → s < time_of part → until s (front ++ part) ≡ until s part
 until_front s [] part order lt = refl
 until_front s (e ∷ front) part order lt = by (until_front s front part order.1 lt) (nat_le e.time s) (leb_tells e.time s) where
   by : until s (front ++ part) ≡ until s part → (b : Bool) → ((b ≡ true) × (e.time ≤ s)) ⊎ ((b ≡ false) × (s < e.time)) → cond b (e ∷ (front ++ part)) (until s (front ++ part)) ≡ until s part
   by rest true tells = absurd (⊎_elim (λ yes. let le = yes.1 in let o = order.0 in let end = before_end front part order.1 in omega (arith, le, o, end, lt)) (λ no. true≢false no.0) tells)
   by rest false tells = rest
+
+-- a part that ends by a time is all of it up to then
+pub until_whole : (s : ℕ) (part : List Performed) → time_of part ≤ s → until s part ≡ part
+until_whole s [] le = refl
+until_whole s (x ∷ part) le = ap (λ (b : Bool). cond b (x ∷ part) (until s part)) (le-leb x.time s le)
+
+-- and what stands up to then, if the next line comes later
+pub until_last : (s : ℕ) (front older : List Performed) (e : Performed) → AreInOrder (front ++ e ∷ older) → s < e.time → time_of older ≤ s → until s (front ++ e ∷ older) ≡ older
+until_last s front older e order late le =
+    until_front s front (e ∷ older) order late
+    ∙ ap (λ (b : Bool). cond b (e ∷ older) (until s older)) (lt-leb e.time s late)
+    ∙ until_whole s older le
 
 module _ (hosts : ℕ → Opening) where
   pub lines_order : (part : List TimedLine) → AreCalledInOrder part → AreInOrder (performed hosts part)

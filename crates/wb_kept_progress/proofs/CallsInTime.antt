@@ -17,8 +17,9 @@ use Rattle.wb_keeping.specs.Kept.{Line, Arrives, Says, Calls}
 use Rattle.wb_keeping.specs.Laws.{KeptLine, doing_of}
 use Rattle.wb_keeping.specs.Performing.{Keeping, after_line, after_lines, sees, sent_by_line}
 use Rattle.wb_kept_progress.specs.Sessions.{Opening}
-use Rattle.wb_kept_progress.specs.Timed.{ComesTo, GoByShort, IsHeldBy, IsQuietLine, SaysNow, Performed, Start, TellTimes, TimedLine, WasSent, called_at, host_after, performed, performed_then, lines_of as lines_of_calls, sends, start_of, time_of, timers_after}
-use Rattle.wb_kept_progress.specs.Whole.{IsHandedIn, IsSpared, IsTimelySession, WasSentBy, sends_then, there}
+use Rattle.wb_kept_progress.specs.Timed.{ComesTo, DelaysAreShort, GoByShort, IsHeldBy, IsQuietLine, SaysNow, Performed, Start, TellTimes, TimedLine, WasSent, called_at, host_after, performed, performed_then, lines_of as lines_of_calls, sends, start_of, time_of, timers_after}
+use Rattle.wb_kept_progress.specs.Whole.{AlwaysShort, IsHandedIn, IsSpared, IsTimelySessionBut, WasSentBy, sends_then, there}
+use Rattle.wb_kept_progress.proofs.AlwaysShort.{short_then}
 use Rattle.wb_kept_progress.proofs.CallLines.{Ends, call_ends, ends_both, host_amid, host_apart, host_before, line_stands, lines_have_calls, sent_in}
 use Rattle.wb_kept_progress.proofs.CallParts.{host_is, lines_order, number_is}
 use Rattle.wb_kept_progress.proofs.FirstLines.{AreLinesOf, IsLineOf, drawop_begins, lines_of_call, one_of_lines, request_begins}
@@ -26,7 +27,6 @@ use Rattle.wb_kept_progress.proofs.KeptInTime.{at_place, front_of, sent_by_one, 
 use Rattle.wb_kept_progress.proofs.Lines.{lines_of}
 use Rattle.wb_kept_progress.proofs.Begun.{ticks_keep}
 use Rattle.wb_kept_progress.proofs.Moments.{IsTuned, moment_of, told_itself, told_or_tuned}
-use Rattle.wb_kept_progress.proofs.Onward.{kept_goes_onward}
 use Rattle.wb_kept_progress.proofs.Performed.{kept_keeps_moments}
 use Rattle.wb_kept_progress.proofs.PerLine.{asks}
 use Rattle.wb_kept_progress.proofs.Repairs.{moved}
@@ -39,7 +39,7 @@ use Rattle.wb_kept_progress.proofs.WholeParts.{IsOfCall, PerformedIsTimely, does
 use Rattle.std.proofs.lemmas.Bool.{false_from_ne_true, not-false}
 use Rattle.wb_kept_progress.proofs.WindowParts.{told_in}
 
-module _ (hosts : ℕ → Opening) (terms : Terms) (trace : List TimedLine) (s : IsTimelySession hosts terms trace) where
+module _ {Delays : Type 0} (hosts : ℕ → Opening) (terms : Terms) (trace : List TimedLine) (s : IsTimelySessionBut Delays hosts terms trace) where
   abbrev starts : ℕ → Start
   starts j = start_of (hosts j)
 
@@ -263,21 +263,46 @@ module _ (hosts : ℕ → Opening) (terms : Terms) (trace : List TimedLine) (s :
     by true here rest = line_tuned (IsUnder (longest terms)) x.line (host_after starts older i) (tunes (eqb-true x.place i here)) rest
     by false apart rest = rest
 
+-- so it is with delays if none is above `far` from the openings on
+pub short_from : {Delays : Type 0} (hosts : ℕ → Opening) (terms : Terms) (trace : List TimedLine) → IsTimelySessionBut Delays hosts terms trace → GoByShort (λ j. start_of (hosts j)) terms (performed hosts trace)
+    → DelaysAreShort (λ j. start_of (hosts j)) terms (performed hosts trace)
+short_from hosts terms trace s short = short_then hosts terms trace
+    (record { order = lines_order hosts trace s.order; begun = s.begun; times = (kept_keeps_moments hosts terms trace s.times).times })
+    (λ newer older i split live. tuned hosts terms trace s newer older i split live) short
+
+pub always_short : AlwaysShort
+always_short hosts terms trace s = record {
+  moments = s.moments;
+  begun = s.begun;
+  distinct = s.distinct;
+  waits = s.waits;
+  tuned = s.tuned;
+  taken = s.taken;
+  order = s.order;
+  times = s.times;
+  covered = s.covered;
+  soon = s.soon;
+  delays = inr (short_from hosts terms trace s s.delays);
+  alone = s.alone;
+  drawn = s.drawn;
+  room = s.room;
+  delivered = s.delivered;
+  fresh = s.fresh;
+}
+
 pub performed_is_timely : PerformedIsTimely
 performed_is_timely hosts terms trace s = record {
   distinct = s.distinct;
   waits = s.waits;
   tuned = λ newer older i split live. tuned hosts terms trace s newer older i split live;
   order = lines_order hosts trace s.order;
-  moments = λ i live. s.moments i;
   begun = s.begun;
-  onward = λ newer older e now split live is. kept_goes_onward hosts trace s.taken newer older e now split is;
   times = (kept_keeps_moments hosts terms trace s.times).times;
   behind = (kept_keeps_moments hosts terms trace s.times).behind;
   soon = λ newer older e i m split live late. soon hosts terms trace s e older (of newer older e split) i m live late;
   delays = ⊎_elim
-      (λ (second : MOST_DELAY ≤ terms.far). kept_go_by_short hosts terms trace s.taken second)
-      (λ (short : GoByShort (λ j. start_of (hosts j)) terms (performed hosts trace)). short)
+      (λ (second : MOST_DELAY ≤ terms.far). short_from hosts terms trace s (kept_go_by_short hosts terms trace s.taken second))
+      (λ (short : DelaysAreShort (λ j. start_of (hosts j)) terms (performed hosts trace)). short)
       s.delays;
   alone = λ newer older e split late. alone hosts terms trace s e older (of newer older e split) late;
   quiet = λ newer older e split late. quiet hosts terms trace s e older (of newer older e split) late;

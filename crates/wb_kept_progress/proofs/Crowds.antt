@@ -22,7 +22,7 @@ use Rattle.wb_kept_progress.specs.Promises.{host_then, timer_then}
 use Rattle.wb_kept_progress.specs.Sessions.{Opening}
 use Rattle.wb_kept_progress.specs.Timed.{AreInOrder, IsTimely, Performed, Start, TimedLine, performed, start_of}
 use Rattle.wb_kept_progress.specs.Whole.{IsTimelySession, request_span}
-use Rattle.wb_kept_progress.proofs.AskedSince.{WasAsked, was_asked}
+use Rattle.wb_kept_progress.proofs.AskedSince.{WasAsked, was_asked_before}
 use Rattle.wb_kept_progress.proofs.CallLines.{lines_have_calls}
 use Rattle.wb_kept_progress.proofs.StopCauses.{stops_have_cause}
 use Rattle.wb_kept_progress.proofs.Timely.{order_of}
@@ -65,7 +65,7 @@ module _ (hosts : ℕ → Opening) (terms : Terms) (trace : List TimedLine) (i :
   asked_lately : (m : NameValue) → level (host_then hosts back i) m ≡ Some 0 → IsAskedFor hosts terms trace i x.time m
   asked_lately m new =
       let t = new_timer (timer_then hosts back i m) new in
-      let w : WasAsked hosts terms trace timely back i m t.0 = was_asked hosts terms trace timely (front ++ x ∷ []) back i m t.0 before_it live t.1 t.2 in
+      let w : WasAsked hosts terms trace timely back i m t.0 = was_asked_before hosts terms trace timely front back x i m t.0 split late live t.1 t.2 in
       let soon : x.time ≤ t.0.due + (terms.lag i + terms.late) = subst (λ (o : Option AskTimer). IfSome o (λ (a : AskTimer). x.time ≤ a.due + (terms.lag i + terms.late))) t.1 (timely.soon front back x i m split live late).ask in
       let due = w.due in
       let first = in_order.0 in

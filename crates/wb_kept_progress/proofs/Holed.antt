@@ -1,5 +1,5 @@
 -- The example with a hole computes.
-use Rattle.std.proofs.Common.{◌≡◌, ℕ, ◌+◌, ◌≤◌, Bool, true, not, ◌&&◌, ◌||◌, List, [], ◌∷◌, arith, inr, leb-true, ltb-true, nat_lt, refl, subst, sym, ⊎_elim}
+use Rattle.std.proofs.Common.{◌≡◌, ℕ, ◌+◌, ◌≤◌, Bool, true, not, ◌&&◌, ◌||◌, List, [], ◌∷◌, arith, leb-true, ltb-true, nat_lt, refl, subst, sym, ⊎_elim}
 use Rattle.std.specs.Prelude.{Contains}
 use Rattle.std.proofs.lemmas.Bool.{and_from, and_parts}
 use Rattle.wb_gaps.specs.Answers.{gaps_of, pages_of, report_of}
@@ -13,6 +13,7 @@ use Rattle.wb_keeping.specs.Kept.{leaps_on, turns_on}
 use Rattle.wb_kept_progress.specs.Holed.{HoledMeets, IsHoleAt, holed, holed_lines, numbered, seldom, unfilled_lines}
 use Rattle.wb_kept_progress.specs.Timed.{TimedLine, called_at}
 use Rattle.wb_kept_progress.specs.Whole.{there}
+use Rattle.wb_kept_progress.proofs.CallsInTime.{always_short}
 use Rattle.wb_kept_progress.proofs.HolesTested.{all_lack_few, all_wait_short, are_held, hole_so, holes_are_held, holes_held, is_held, is_hole, one_lacks, only_holes, only_holes_lacked, waits_for}
 use Rattle.wb_kept_progress.proofs.ShortTested.{calls_near, go_by_short}
 use Rattle.wb_kept_progress.proofs.Tested.{Begins, delivers, has_room, in_order, in_time, is_fresh, lines_keep, passes, session_of, taken}
@@ -112,7 +113,7 @@ hole_at n named lacking = record {
 
 pub holed_meets : HoledMeets
 holed_meets = record {
-  session = session_of seldom holed holed_lines begins (inr (go_by_short seldom holed (leb-true _ _ refl) holed_lines near)) keeps;
+  session = always_short seldom holed holed_lines (session_of seldom holed holed_lines begins (go_by_short seldom holed (leb-true _ _ refl) holed_lines near) keeps);
   waits = waits_for seldom holed holed_lines three are_three 0 f.1;
   lacks = one_lacks seldom holed holed_lines three are_three 2 f.0;
   held = holes_are_held seldom holed holed_lines three are_three h.0;

@@ -67,6 +67,7 @@ pub mod Courses
 pub mod Causes
 pub mod Spent
 pub mod AskedSince
+pub mod AlwaysShort
 pub mod TurnsApart
 pub mod Pauses
 pub mod TurnsHad
@@ -104,3 +105,5 @@ pub mod Examples
 pub mod HolesTested
 pub mod ShortTested
 pub mod Holed
+pub mod StandTested
+pub mod OnceFar

@@ -320,7 +320,7 @@ module _ (o : Keeping) (fine : IsFine o) (d : DrawopValue) (held : Contains o.ho
 
   quiet_2 : (timers o2.host).quiet ≤ second
   quiet_2 =
-      let le = (keepers_are_bounded o1.host.is.number o1.host.is.constants o1.host.is.calls fine_1.constants fine_1.goes.orderly n).quiet in
+      let le = (keepers_are_bounded o1.host.is.number o1.host.is.constants o1.host.is.calls fine_1.constants fine_1.goes.orderly n).answers.quiet in
       let now : present o1.host ≡ first = r1.now in
       let e : (timers o2.host).quiet ≡ (timers o1.host).quiet = ap (λ (s : Timers). s.quiet) same_2 in
       omega (arith, le, now, e)

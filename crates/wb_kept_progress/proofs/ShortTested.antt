@@ -45,11 +45,11 @@ module _ (hosts : ℕ → Opening) (terms : Terms) where
   line_near host line = true
 
   -- lines, one after the other, and those of each call
-  abbrev told_near : List Line → Opened → Bool
+  abbrev pub told_near : List Line → Opened → Bool
   told_near [] host = true
   told_near (line ∷ lines) host = line_near host line && told_near lines (after_line line host)
 
-  abbrev call_near : TimedLine → Keeping → Bool
+  abbrev pub call_near : TimedLine → Keeping → Bool
   call_near e k = told_near (doing_of e.at.line (sees k.host) k.policy).lines k.host
 
   abbrev pub calls_near : List TimedLine → Bool
@@ -96,13 +96,13 @@ module _ (hosts : ℕ → Opening) (terms : Terms) where
   after_near (Says (Draw d)) host near so = λ source. so source
   after_near line host near so = λ source. so source
 
-  all_near : (lines : List Line) (host : Opened) → told_near lines host ≡ true → AreSo IsNear host → AreSo IsNear (after_lines lines host)
+  pub all_near : (lines : List Line) (host : Opened) → told_near lines host ≡ true → AreSo IsNear host → AreSo IsNear (after_lines lines host)
   all_near [] host near so = so
   all_near (line ∷ lines) host near so =
       let p = and_parts (line_near host line) _ near in
       all_near lines (after_line line host) p.1 (after_near line host p.0 so)
 
-  near_at : (one other : List Line) (line : Line) (host : Opened) → told_near (one ++ line ∷ other) host ≡ true → AreSo IsNear host → AreSo IsNear (after_lines one host)
+  pub near_at : (one other : List Line) (line : Line) (host : Opened) → told_near (one ++ line ∷ other) host ≡ true → AreSo IsNear host → AreSo IsNear (after_lines one host)
   near_at [] other line host near so = so
   near_at (first ∷ one) other line host near so =
       let p = and_parts (line_near host first) _ near in

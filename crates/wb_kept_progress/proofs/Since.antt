@@ -17,10 +17,10 @@ use Rattle.wb_laws_kept.specs.Openings.{opened, opened_host}
 use Rattle.wb_laws_kept.specs.Sessions.{Begins, Call, CallAt, Handed, given_lines, kept_at}
 use Rattle.wb_kept_progress.specs.Sessions as hosts
 use Rattle.wb_kept_progress.specs.Sessions.{LineAt, Opening, at}
-use Rattle.wb_kept_progress.specs.Since.{AreFittingSince, AreInOrder, IsFitting, IsFittingSince, IsHandedIn, IsSpared, IsTimelyWithStarts, RestartedBecomeWhole, RestartedBecomeWholeByRounds, RestartedBecomeWholeInCrowds, RestartedFillHoles, SinceIsSame, SinceIsTimely, WasSentBy, called_at, elsewhere, handed_at, hosts_of, opening_at, opening_by, since, since_by, with_number}
+use Rattle.wb_kept_progress.specs.Since.{AlwaysShortSince, AreFittingSince, AreInOrder, IsFitting, IsFittingSince, IsHandedIn, IsSpared, IsTimelyWithStarts, IsTimelyWithStartsBut, RestartedBecomeWhole, RestartedBecomeWholeByRounds, RestartedBecomeWholeInCrowds, RestartedFillHoles, SinceIsSame, SinceIsTimely, WasSentBy, called_at, elsewhere, handed_at, hosts_of, opening_at, opening_by, since, since_by, with_number}
 use Rattle.wb_kept_progress.specs.Timed.{TellTimes, TimedLine}
 use Rattle.wb_kept_progress.specs.Timed as timed
-use Rattle.wb_kept_progress.specs.Whole.{AreCalledInOrder, there}
+use Rattle.wb_kept_progress.specs.Whole.{AreCalledInOrder, IsTimelySessionBut, there}
 use Rattle.wb_kept_progress.specs.Whole as whole
 use Rattle.wb_kept_progress.specs.Crowded.{crowded_by}
 use Rattle.wb_kept_progress.specs.Filling.{filled_by}
@@ -30,6 +30,7 @@ use Rattle.wb_kept_progress.proofs.InCrowds.{sessions_become_whole_in_crowds}
 use Rattle.wb_kept_progress.proofs.Promised.{sessions_become_whole}
 use Rattle.wb_kept_progress.proofs.Rounds.{sessions_become_whole_by_rounds}
 use Rattle.wb_kept_progress.proofs.CallParts.{calls_end}
+use Rattle.wb_kept_progress.proofs.CallsInTime.{short_from}
 use Rattle.wb_kept_progress.proofs.Starts.{are_fit, are_taken, is_kept, onto, same_either, same_opening, without}
 use Rattle.wb_kept_progress.proofs.Starts as lines
 
@@ -211,7 +212,7 @@ tells_all terms (e ∷ trace) all = ((λ live. ((all e.at.place live).0 refl).sa
 
 -- ---- a session
 
-module _ (numbers : ℕ → ℕ) (terms : Terms) (calls : List CallAt) (s : IsTimelyWithStarts numbers terms calls) where
+module _ {Delays : Type 0} (numbers : ℕ → ℕ) (terms : Terms) (calls : List CallAt) (s : IsTimelyWithStartsBut Delays numbers terms calls) where
   abbrev opens : ℕ → Opening
   opens = hosts_of numbers calls
 
@@ -466,8 +467,9 @@ module _ (numbers : ℕ → ℕ) (terms : Terms) (calls : List CallAt) (s : IsTi
       (one_at e.at.place (λ time line. IsFitting terms time e.at.place line) newer older e
       (subst (AreAt e.at.place (λ time line. IsFitting terms time e.at.place line)) split (since_fits terms numbers e.at.place calls (s.fitting e.at.place live))) refl).tuned constants is
 
-pub since_is_timely : SinceIsTimely
-since_is_timely numbers terms calls s = record {
+-- whatever is asked of delays
+since_keeps : {Delays : Type 0} (numbers : ℕ → ℕ) (terms : Terms) (calls : List CallAt) → IsTimelyWithStartsBut Delays numbers terms calls → IsTimelySessionBut Delays (hosts_of numbers calls) terms (since numbers calls)
+since_keeps numbers terms calls s = record {
   moments = λ i. (are_fit numbers calls s.taken i).moments;
   begun = λ i live. (last_start terms numbers i calls (s.fitting i live)).begun;
   distinct = λ i j same. s.apart i j same;
@@ -491,6 +493,25 @@ since_is_timely numbers terms calls s = record {
 } where
   after_quiet : (terms : Terms) (time : ℕ) → settled_by terms < time → terms.quiet < time
   after_quiet terms time settled = omega (arith, settled)
+
+pub since_is_timely : SinceIsTimely
+since_is_timely numbers terms calls s = since_keeps numbers terms calls s
+
+pub always_short_since : AlwaysShortSince
+always_short_since numbers terms calls s = record {
+  apart = s.apart;
+  taken = s.taken;
+  order = s.order;
+  covered = s.covered;
+  delays = inr (short_from (hosts_of numbers calls) terms (since numbers calls) (since_keeps numbers terms calls s) s.delays);
+  fitting = s.fitting;
+  alone = s.alone;
+  drawn = s.drawn;
+  soon = s.soon;
+  room = s.room;
+  delivered = s.delivered;
+  fresh = s.fresh;
+}
 
 pub since_is_same : SinceIsSame
 since_is_same numbers calls i = since_same numbers calls i

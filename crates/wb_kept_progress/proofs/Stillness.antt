@@ -243,7 +243,7 @@ module _ (hosts : ℕ → Opening) (terms : Terms) (trace newest window base : L
     cause : (m : NameValue) → level (host_then hosts back i) m ≡ Some 0 → Contains turns.names m ⊎ IsHeldBySome hosts terms trace m
     cause m new =
         let t = new_timer (timer_then hosts back i m) new in
-        let w = was_asked hosts terms trace timely (newest_lines.0 ++ (front ++ e ∷ [])) back i m t.0 (part_of_all (front ++ e ∷ []) back before_it) live t.1 t.2 in
+        let w = was_asked hosts terms trace timely (newest_lines.0 ++ (front ++ e ∷ [])) back i m t.0 (part_of_all (front ++ e ∷ []) back before_it) (let s = settled in omega (arith, s, late)) live t.1 t.2 in
         had_cause m t.0 t.1 w (calls_of hosts whole ((front ++ e ∷ []) ++ w.newer) w.x w.older (before_it ∙ ap (λ (l : List Performed). (front ++ e ∷ []) ++ l) w.split ∙ sym (append_assoc (front ++ e ∷ []) w.newer (w.x ∷ w.older))))
 
     -- of 64 that are asked for, and of which none was backed off, another than the least is held by some
@@ -380,7 +380,7 @@ module _ (hosts : ℕ → Opening) (terms : Terms) (trace newest window base : L
       -- where its timer was not backed off
       new_ends : ask.level ≡ 0 → Ends
       new_ends new =
-          let w = was_asked hosts terms trace timely (newest_lines.0 ++ front) back i n ask in_all live is.stands new in
+          let w = was_asked hosts terms trace timely (newest_lines.0 ++ front) back i n ask in_all (let b = soon in let t = settled in omega (arith, b, t)) live is.stands new in
           let by = line_by back w.newer w.older w.x (order_back front back is.split) w.split in
           let due = w.due in
           let k = known in

@@ -1,5 +1,5 @@
 -- Tests of a session that compute, and what they tell: it keeps to the terms, and how much its boards have.
-use Rattle.std.proofs.Common.{◌≡◌, ◌≢◌, ◌⊎◌, ℕ, ◌+◌, ◌*◌, ◌-◌, ◌^◌, ◌<◌, ◌≤◌, Bool, true, false, not, ◌&&◌, ◌||◌, List, [], ◌∷◌, ◌++◌, ap, arith, eqb-true, inl, is_none, length, nat_eq, nat_le, nat_lt, refl, subst, sym, true≢false, ⊎_elim}
+use Rattle.std.proofs.Common.{◌≡◌, ◌≢◌, ℕ, ◌+◌, ◌*◌, ◌-◌, ◌^◌, ◌<◌, ◌≤◌, Bool, true, false, not, ◌&&◌, ◌||◌, List, [], ◌∷◌, ◌++◌, ap, arith, eqb-true, inl, is_none, length, nat_eq, nat_le, nat_lt, refl, subst, sym, true≢false, ⊎_elim}
 use Rattle.std.specs.Prelude.{Contains}
 use Rattle.std.proofs.lemmas.Bool.{and_parts, leb-true, ltb-true, or_cases, not-true}
 use Rattle.std.proofs.lemmas.List.Elements.{Contains-append_right}
@@ -17,12 +17,11 @@ use Rattle.wb_progress.specs.Turns.{IsNowAt, Terms, longest, settled_by}
 use Rattle.wb_member.specs.Judged.{is_full}
 use Rattle.wb_member.specs.Opened.{present}
 use Rattle.wb_policy.specs.Fairness.{slices_of, slices_on}
-use Rattle.wb_policy.specs.declared.limits.TheConstants.{MOST_DELAY}
 use Rattle.wb_keeping.specs.Laws.{KeptLine, Came, Ticked, Added, Tuned, fault_of}
 use Rattle.wb_keeping.specs.Performing.{due}
 use Rattle.wb_kept_progress.specs.Sessions.{AreTaken, DoNotGoBack, Opening, opened_host}
-use Rattle.wb_kept_progress.specs.Timed.{GoByShort, SaysNow, TellTimes, TimedLine, called_at, lines_of, performed, start_of}
-use Rattle.wb_kept_progress.specs.Whole.{AreCalledInOrder, AreWithin, IsHandedIn, IsTimelySession, Sizes, WasSentBy, sends_then, there}
+use Rattle.wb_kept_progress.specs.Timed.{SaysNow, TellTimes, TimedLine, called_at, lines_of}
+use Rattle.wb_kept_progress.specs.Whole.{AreCalledInOrder, AreWithin, IsHandedIn, IsTimelySessionBut, Sizes, WasSentBy, sends_then, there}
 use Rattle.wb_kept_progress.proofs.SameDatagrams.{same_datagram, same_datagram-is}
 use Rattle.wb_kept_progress.proofs.Testing.{each, each-at, parts, parts-at, some, some-at, splits, splits-at}
 
@@ -256,7 +255,7 @@ module _ (hosts : ℕ → Opening) (terms : Terms) where
     pub waits : (i : ℕ) → Contains terms.live i → IsUnder (longest terms) (hosts i).constants
     pub covered : terms.drift ≤ terms.late
 
-  pub session_of : (trace : List TimedLine) → Begins → (MOST_DELAY ≤ terms.far) ⊎ GoByShort (λ j. start_of (hosts j)) terms (performed hosts trace) → passes trace ≡ true → IsTimelySession hosts terms trace
+  pub session_of : {Delays : Type 0} (trace : List TimedLine) → Begins → Delays → passes trace ≡ true → IsTimelySessionBut Delays hosts terms trace
   session_of trace b delays so = record {
     moments = b.moments;
     begun = b.begun;

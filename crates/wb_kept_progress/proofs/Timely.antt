@@ -1,5 +1,5 @@
 -- Hosts that keep to stated times are keepers that take turns in time.
-use Rattle.std.proofs.Common.{◌≡◌, ℕ, ◌+◌, ◌<◌, ◌≤◌, Bool, true, false, cond, List, [], ◌∷◌, ◌++◌, ◌∙◌, None, ap, append_assoc, arith, eqb-true, eq-eqb, inl, inr, max, refl, subst, sym, true≢false, ⊎_elim}
+use Rattle.std.proofs.Common.{◌≡◌, ℕ, ◌+◌, ◌-◌, ◌<◌, ◌≤◌, Bool, true, false, cond, List, [], ◌∷◌, ◌++◌, ◌∙◌, None, ap, append_assoc, arith, eqb-true, eq-eqb, inl, inr, max, refl, subst, sym, true≢false, ⊎_elim}
 use Rattle.std.specs.Prelude.{◌⊎◌, ◌≢◌, Contains, is_some, nat_eq}
 use Rattle.std.proofs.lemmas.List.Elements.{Contains-append_right}
 use Rattle.std.proofs.Math.Bool.{or-true}
@@ -13,21 +13,21 @@ use Rattle.wb_recovery.specs.declared.tuning.Tuning.{Tuning}
 use Rattle.wb_keeper.specs.Keeper.{KeeperCall, Arrive, GiveUp, GoOn, Hear, delay_to, holds, is_own, moment_at}
 use Rattle.wb_keeper.specs.Ticks.{sent_by_tick, stopped_after}
 use Rattle.wb_keeper.proofs.KeptCalls.{holds_from}
-use Rattle.wb_progress.specs.Bounds.{IsUnder}
-use Rattle.wb_progress.specs.Keepers.{AreWithin, constants_at, uses_delays}
+use Rattle.wb_progress.specs.Bounds.{AreAnswersNear, IsUnder}
+use Rattle.wb_progress.specs.Keepers.{IsWithin, constants_at}
 use Rattle.wb_progress.specs.Repairs.{timers_at}
 use Rattle.wb_progress.specs.Turns.{Accepts, AreTurns, Desk, IsHeardAt, IsNowAt, IsOtherOrLacked, IsQuietBut, IsTurn, KeepTimeBut, Places, Terms, Turn, longest, settled_by}
 use Rattle.wb_progress.specs.Turns as turning
 use Rattle.wb_progress.proofs.Giving.{held_as}
 use Rattle.wb_laws_sessions.proofs.Holding.{HeldNone, line_keeps, none_after}
-use Rattle.wb_member.specs.Judged.{delay, is_full}
+use Rattle.wb_member.specs.Judged.{is_full}
 use Rattle.wb_member.specs.Opened.{Opened, accepted, asks_for, heard, opened_with, present}
 use Rattle.wb_member.specs.Random.{word_of}
 use Rattle.wb_member.specs.declared.calls.Call.TheVariants as calls
 use Rattle.wb_keeping.specs.Kept.{Line, Arrives, Says, Calls}
 use Rattle.wb_keeping.specs.Performing.{after_line, sent_by_line}
 use Rattle.wb_kept_progress.specs.Timed.{AllHoldBehind, AreInOrder, ComesTo, IsAnswerable, IsHeldBy, IsTimely, Performed, Start, WasSent, host_after, time_of, timers_after, until}
-use Rattle.wb_kept_progress.proofs.Begun.{HasNoTimers, tick_no_timers, ticks_keep, ticks_within}
+use Rattle.wb_kept_progress.proofs.Begun.{ticks_keep}
 use Rattle.wb_kept_progress.proofs.Lines.{IsOf, line_grows, line_of, same_member}
 use Rattle.wb_kept_progress.proofs.Lining.{by_line, by_part, desk_is, desk_of, order_is, over_join, places, time_is, turn_of, turns_join, turns_of, turns_over, until_is}
 use Rattle.wb_kept_progress.proofs.PerLine.{IsMade, asks, draws, goes_by, is_made, line_did, line_moment}
@@ -104,6 +104,38 @@ in_past (e ∷ newer) later [] base same order lt =
     absurd (omega (arith, le, o, is, lt))
 in_past (e ∷ newer) later (y ∷ front) base same order lt = in_past newer later front base (tails e y (newer ++ later) (front ++ base) same) order.1 lt
 
+-- ---- the moment of a host
+
+pub split_back : (trace front part : List Performed) (e : Performed) → trace ≡ front ++ e ∷ part → trace ≡ (front ++ e ∷ []) ++ part
+split_back trace front part e split = split ∙ sym (append_assoc front (e ∷ []) part)
+
+-- what a clock may tell
+pub record KeepClocks (hosts : ℕ → Start) (terms : Terms) (trace : List Performed) : Type 0 where
+  pub order : AreInOrder trace
+  pub begun : (i : ℕ) → Contains terms.live i → present (host_after hosts [] i) + terms.lag i ≤ terms.quiet
+  pub times : (newer older : List Performed) (e : Performed) (now : ℕ) → trace ≡ newer ++ e ∷ older → Contains terms.live e.place → e.line ≡ Calls (calls.Tick now) → IsNowAt terms e.time e.place now
+
+pub clock_by : (hosts : ℕ → Start) (terms : Terms) (trace : List Performed) → KeepClocks hosts terms trace → (front part : List Performed) (i : ℕ) → trace ≡ front ++ part → Contains terms.live i
+    → present (host_after hosts part i) + terms.lag i ≤ max (time_of part) terms.quiet
+clock_by hosts terms trace keep front [] i split live = let begun = keep.begun i live in omega (arith, begun)
+clock_by hosts terms trace keep front (e ∷ older) i split live = from (nat_eq e.place i) refl (clock_by hosts terms trace keep (front ++ e ∷ []) older i (split_back trace front older e split) live) where
+  order : AreInOrder (e ∷ older)
+  order = order_of front (e ∷ older) (subst AreInOrder split keep.order)
+
+  Early : Opened → Type 0
+  Early h = present h + terms.lag i ≤ max e.time terms.quiet
+
+  from : (b : Bool) → nat_eq e.place i ≡ b → present (host_after hosts older i) + terms.lag i ≤ max (time_of older) terms.quiet → Early (cond b (after_line e.line (host_after hosts older i)) (host_after hosts older i))
+  from false other rest = let o = order.0 in omega (arith, rest, o)
+  from true same rest = ⊎_elim
+      (λ (s : present (after_line e.line (host_after hosts older i)) ≡ present (host_after hosts older i)). let o = order.0 in omega (arith, s, rest, o))
+      (λ (t : (now : ℕ) × (e.line ≡ Calls (calls.Tick now)) × (present (after_line e.line (host_after hosts older i)) ≡ now)).
+      let at : IsNowAt terms e.time i t.0 = subst (λ (k : ℕ). IsNowAt terms e.time k t.0) (eqb-true e.place i same) (keep.times front older e t.0 split (subst (Contains terms.live) (sym (eqb-true e.place i same)) live) t.1) in
+      let ahead = at.not_ahead in
+      let is = t.2 in
+      omega (arith, is, ahead))
+      (line_moment e.line (host_after hosts older i))
+
 -- ---- a timely trace
 
 module _ (hosts : ℕ → Start) (terms : Terms) (trace : List Performed) (timely : IsTimely hosts terms trace) where
@@ -114,69 +146,28 @@ module _ (hosts : ℕ → Start) (terms : Terms) (trace : List Performed) (timel
   all = turns_of hosts trace
 
   pub split_part : (front part : List Performed) (e : Performed) → trace ≡ front ++ e ∷ part → trace ≡ (front ++ e ∷ []) ++ part
-  split_part front part e split = split ∙ sym (append_assoc front (e ∷ []) part)
+  split_part front part e split = split_back trace front part e split
 
   -- ---- its moment
 
   pub clock : (front part : List Performed) (i : ℕ) → trace ≡ front ++ part → Contains terms.live i → present (host_after hosts part i) + terms.lag i ≤ max (time_of part) terms.quiet
-  clock front [] i split live = let begun = timely.begun i live in omega (arith, begun)
-  clock front (e ∷ older) i split live = from (nat_eq e.place i) refl (clock (front ++ e ∷ []) older i (split_part front older e split) live) where
-    order : AreInOrder (e ∷ older)
-    order = order_of front (e ∷ older) (subst AreInOrder split timely.order)
+  clock front part i split live = clock_by hosts terms trace (record { order = timely.order; begun = timely.begun; times = timely.times }) front part i split live
 
-    Early : Opened → Type 0
-    Early h = present h + terms.lag i ≤ max e.time terms.quiet
-
-    from : (b : Bool) → nat_eq e.place i ≡ b → present (host_after hosts older i) + terms.lag i ≤ max (time_of older) terms.quiet → Early (cond b (after_line e.line (host_after hosts older i)) (host_after hosts older i))
-    from false other rest = let o = order.0 in omega (arith, rest, o)
-    from true same rest = ⊎_elim
-        (λ (s : present (after_line e.line (host_after hosts older i)) ≡ present (host_after hosts older i)). let o = order.0 in omega (arith, s, rest, o))
-        (λ (t : (now : ℕ) × (e.line ≡ Calls (calls.Tick now)) × (present (after_line e.line (host_after hosts older i)) ≡ now)).
-        let at : IsNowAt terms e.time i t.0 = subst (λ (k : ℕ). IsNowAt terms e.time k t.0) (eqb-true e.place i same) (timely.times front older e t.0 split (subst (Contains terms.live) (sym (eqb-true e.place i same)) live) t.1) in
-        let ahead = at.not_ahead in
-        let is = t.2 in
-        omega (arith, is, ahead))
-        (line_moment e.line (host_after hosts older i))
-
-  within : (front part : List Performed) (i : ℕ) → trace ≡ front ++ part → Contains terms.live i → AreWithin terms.far (longest terms) (hosts i).number (hosts i).constants (host_after hosts part i).is.calls
-  within front [] i split live =
-      ticks_within terms.far (longest terms) (hosts i).number (hosts i).constants (hosts i).moments (start hosts i) refl (timely.moments i live) (timely.waits i live)
-  within front (e ∷ older) i split live = from (nat_eq e.place i) refl (within (front ++ e ∷ []) older i part live) where
-    part : trace ≡ (front ++ e ∷ []) ++ older
-    part = split_part front older e split
-
+  -- a call from `quiet` on goes by short delays
+  within : (front older : List Performed) (e : Performed) (call : KeeperCall) → trace ≡ front ++ e ∷ older → Contains terms.live e.place → terms.quiet < e.time → IsMade (host_after hosts older e.place) e.line call
+      → IsWithin terms.far (longest terms) (hosts e.place).number (hosts e.place).constants call (host_after hosts older e.place).is.calls
+  within front older e call split live late made = record {
+    delays = λ uses source. subst (λ (k : ℕ). delay_to k h.is.calls source ≤ terms.far) member.number (timely.delays.goes front older e source split live late (goes_by h e.line call made uses));
+    constants =
+        subst (λ (k : ℕ). IsUnder (longest terms) (constants_at k (hosts e.place).constants h.is.calls)) member.number
+        (subst (λ (t : Tuning). IsUnder (longest terms) (constants_at h.is.number t h.is.calls)) member.constants
+        (timely.tuned (front ++ e ∷ []) older e.place (split_part front older e split) live));
+  } where
     h : Opened
-    h = host_after hosts older i
+    h = host_after hosts older e.place
 
-    delays : e.place ≡ i → (call : KeeperCall) → IsMade h e.line call → uses_delays call ≡ true → (source : ℕ) → delay_to (hosts i).number h.is.calls source ≤ terms.far
-    delays here call made uses source =
-        let goes = goes_by h e.line call made uses in
-        subst (λ (k : ℕ). delay_to k h.is.calls source ≤ terms.far) (of_start hosts older i).number
-        (subst (λ (k : ℕ). delay (host_after hosts older k) source ≤ terms.far) here (timely.delays front older e source split (subst (Contains terms.live) (sym here) live) goes))
-
-    under : nat_eq e.place i ≡ true → (call : KeeperCall) → (after_line e.line h).is.calls ≡ call ∷ h.is.calls → IsUnder (longest terms) (constants_at (hosts i).number (hosts i).constants (call ∷ h.is.calls))
-    under same call calls =
-        let next : host_after hosts (e ∷ older) i ≡ after_line e.line h = ap (λ (b : Bool). cond b (after_line e.line h) h) same in
-        subst (λ (cs : List KeeperCall). IsUnder (longest terms) (constants_at (hosts i).number (hosts i).constants cs)) (ap (λ (o : Opened). o.is.calls) next ∙ calls)
-        (subst (λ (k : ℕ). IsUnder (longest terms) (constants_at k (hosts i).constants (host_after hosts (e ∷ older) i).is.calls)) (of_start hosts (e ∷ older) i).number
-        (subst (λ (t : Tuning). IsUnder (longest terms) (constants_at (host_after hosts (e ∷ older) i).is.number t (host_after hosts (e ∷ older) i).is.calls)) (of_start hosts (e ∷ older) i).constants
-        (timely.tuned front (e ∷ older) i split live)))
-
-    goes : e.place ≡ i → present h ≤ present (after_line e.line h)
-    goes here = ⊎_elim
-        (λ (s : present (after_line e.line h) ≡ present h). omega (arith, s))
-        (λ (t : (now : ℕ) × (e.line ≡ Calls (calls.Tick now)) × (present (after_line e.line h) ≡ now)).
-        let on : present h ≤ t.0 = subst (λ (k : ℕ). present (host_after hosts older k) ≤ t.0) here (timely.onward front older e t.0 split (subst (Contains terms.live) (sym here) live) t.1) in
-        let is = t.2 in
-        omega (arith, is, on))
-        (line_moment e.line h)
-
-    from : (b : Bool) → nat_eq e.place i ≡ b → AreWithin terms.far (longest terms) (hosts i).number (hosts i).constants h.is.calls → AreWithin terms.far (longest terms) (hosts i).number (hosts i).constants (cond b (after_line e.line h) h).is.calls
-    from false other rest = rest
-    from true same rest = ⊎_elim
-        (λ (s : (after_line e.line h).is.calls ≡ h.is.calls). subst (AreWithin terms.far (longest terms) (hosts i).number (hosts i).constants) (sym s) rest)
-        (λ (c : (call : KeeperCall) × ((after_line e.line h).is.calls ≡ call ∷ h.is.calls) × IsMade h e.line call). subst (AreWithin terms.far (longest terms) (hosts i).number (hosts i).constants) (sym c.1) (subst (λ (m : ℕ). present h ≤ m) (ap moment_at c.1) (goes (eqb-true e.place i same)), delays (eqb-true e.place i same) c.0 c.2, under same c.0 c.1, rest))
-        (line_did e.line h)
+    member : IsOf (start hosts e.place) h
+    member = of_start hosts older e.place
 
   -- ---- one turn
 
@@ -369,8 +360,12 @@ module _ (hosts : ℕ → Start) (terms : Terms) (trace : List Performed) (timel
   are = record {
     apart = λ i j live_i live_j same. timely.distinct i j same;
     turn = λ newer older x same. by_line hosts trace (λ newer x older. Contains terms.live x.place → IsTurn at terms older x) (λ front back e split live. is_turn front back e split live) newer older x same;
-    within = λ newer older i same live. by_part hosts trace (λ newer older. AreWithin terms.far (longest terms) (at.me i) (at.constants i) (turning.desk_at at older i).calls) (λ front back split. subst (λ (d : Desk). AreWithin terms.far (longest terms) (at.me i) (at.constants i) d.calls) (sym (desk_is hosts back i)) (within front back i split live)) newer older same;
-    first = λ i n live. ap (λ (k : Timers). k.quiet) (timers_here hosts [] i n ∙ ticks_keep (HasNoTimers n) (tick_no_timers n) (hosts i).moments (start hosts i) refl);
+    within = λ newer older x call same live late accepts.
+        by_line hosts trace (λ newer x older. Contains terms.live x.place → terms.quiet < x.time → Accepts at older x call → IsWithin terms.far (longest terms) (at.me x.place) (at.constants x.place) call (turning.desk_at at older x.place).calls)
+        (λ front back e split live late accepts. subst (λ (d : Desk). IsWithin terms.far (longest terms) (hosts e.place).number (hosts e.place).constants call d.calls) (sym (desk_is hosts back e.place))
+        (within front back e call split live late (made hosts back e call accepts))) newer older x same live late accepts;
+    near = λ i n live. subst (AreAnswersNear (longest terms) terms.far (terms.quiet - terms.lag i))
+        (sym (ap (λ (t : List Turn). turning.timers_there at t i n) (until_is hosts terms.quiet trace) ∙ timers_here hosts (until terms.quiet trace) i n)) (timely.delays.answers i n live);
     clock = λ newer older i same live. by_part hosts trace (λ newer older. moment_at (turning.desk_at at older i).calls + terms.lag i ≤ max (turning.time_of older) terms.quiet)
         (λ front back split. subst (λ (k : ℕ). moment_at (turning.desk_at at (turns_of hosts back) i).calls + terms.lag i ≤ max k terms.quiet) (sym (time_is hosts back)) (subst (λ (d : Desk). moment_at d.calls + terms.lag i ≤ max (time_of back) terms.quiet) (sym (desk_is hosts back i)) (clock front back i split live))) newer older same;
     history = λ newer older i same live. by_part hosts trace (λ newer older. IsHistory (turning.desk_at at older i).held) (λ front back split. subst (λ (d : Desk). IsHistory d.held) (sym (desk_is hosts back i)) (history hosts back i)) newer older same;

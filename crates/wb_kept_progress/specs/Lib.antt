@@ -18,3 +18,4 @@ pub mod Bytes
 pub mod Judged
 pub mod Examples
 pub mod Holed
+pub mod OnceFar

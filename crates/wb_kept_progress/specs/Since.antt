@@ -20,7 +20,7 @@ use Rattle.wb_laws_kept.specs.Openings as starts
 use Rattle.wb_laws_kept.specs.Openings.{opened, opened_host}
 use Rattle.wb_laws_kept.specs.Sessions.{AreTaken, Begins, Call, CallAt, Handed, given_lines, kept_at}
 use Rattle.wb_kept_progress.specs.Sessions.{Opening, at}
-use Rattle.wb_kept_progress.specs.Timed.{GoByShort, SaysNow, TimedLine, performed, start_of}
+use Rattle.wb_kept_progress.specs.Timed.{DelaysAreShort, GoByShort, SaysNow, TimedLine, performed, start_of}
 use Rattle.wb_kept_progress.specs.Crowded.{crowded_by, spent_in}
 use Rattle.wb_kept_progress.specs.Filling.{OnlyHolesAreLacked, filled_by}
 use Rattle.wb_kept_progress.specs.Rounds.{OneLacksAtMost, PlacesAreFilled, rounds_by}
@@ -121,17 +121,20 @@ pub record WasSentBy (numbers : ℕ → ℕ) (older : List CallAt) (time within 
   pub call : e.call ≡ Handed line
   pub sent : Contains (sent_by_doing (doing_of line) (kept_at numbers before e.place)) v
 
--- No line since the last start of a live member goes by a delay above `far`.
+-- No line since the last start of a live member goes by a delay above `far`; or none does from `quiet` on, and what stands then ends as soon.
 abbrev pub GoByShortSince : (ℕ → ℕ) → Terms → List CallAt → Type 0
 GoByShortSince numbers terms calls = let hosts = hosts_of numbers calls in GoByShort (λ j. start_of (hosts j)) terms (performed hosts (since numbers calls))
 
--- The premises of `IsTimelySession`. Before `quiet` programs start and end as they like; nothing is asked of what came before the last start.
-pub record IsTimelyWithStarts (numbers : ℕ → ℕ) (terms : Terms) (calls : List CallAt) : Type 0 where
+abbrev pub DelaysAreShortSince : (ℕ → ℕ) → Terms → List CallAt → Type 0
+DelaysAreShortSince numbers terms calls = let hosts = hosts_of numbers calls in DelaysAreShort (λ j. start_of (hosts j)) terms (performed hosts (since numbers calls))
+
+-- The premises of `IsTimelySessionBut`. Before `quiet` programs start and end as they like; nothing is asked of what came before the last start.
+pub record IsTimelyWithStartsBut (Delays : Type 0) (numbers : ℕ → ℕ) (terms : Terms) (calls : List CallAt) : Type 0 where
   pub apart : AreApart numbers
   pub taken : AreTaken numbers calls
   pub order : AreInOrder calls
   pub covered : terms.drift ≤ terms.late
-  pub delays : (MOST_DELAY ≤ terms.far) ⊎ GoByShortSince numbers terms calls
+  pub delays : Delays
   pub fitting : (i : ℕ) → Contains terms.live i → AreFittingSince terms (numbers i) i calls
   -- from `quiet` on
   pub alone : (newer older : List CallAt) (e : CallAt) → calls ≡ newer ++ e ∷ older → terms.quiet < e.time → Contains terms.live e.place × ((line : KeptLine) × (e.call ≡ Handed line))
@@ -142,6 +145,10 @@ pub record IsTimelyWithStarts (numbers : ℕ → ℕ) (terms : Terms) (calls : L
       → Contains (sent_by_doing (doing_of line) (kept_at numbers older e.place)) v → e.time + terms.delivery < called_at calls → IsHandedIn newer j (e.time + terms.delivery) v ⊎ IsSpared numbers newer (e ∷ older) j (e.time + terms.delivery) v
   pub fresh : (newer older : List CallAt) (e : CallAt) (now : ℕ) (v : Datagram) → calls ≡ newer ++ e ∷ older → settled_by terms < e.time → e.call ≡ Handed (Came now v) → WasSentBy numbers older e.time terms.delivery v
 
+-- and those of `IsTimelySession`
+abbrev pub IsTimelyWithStarts : (ℕ → ℕ) → Terms → List CallAt → Type 0
+IsTimelyWithStarts numbers terms calls = IsTimelyWithStartsBut ((MOST_DELAY ≤ terms.far) ⊎ DelaysAreShortSince numbers terms calls) numbers terms calls
+
 -- ---- laws
 
 -- The hosts since the last starts are the members.
@@ -151,6 +158,10 @@ SinceIsSame = (numbers : ℕ → ℕ) (calls : List CallAt) (i : ℕ) → there 
 -- So with such starts before `quiet` a session keeps to times.
 abbrev pub SinceIsTimely : Type 0
 SinceIsTimely = (numbers : ℕ → ℕ) (terms : Terms) (calls : List CallAt) → IsTimelyWithStarts numbers terms calls → IsTimelySession (hosts_of numbers calls) terms (since numbers calls)
+
+-- Of delays it is enough that none is above `far` since the last starts.
+abbrev pub AlwaysShortSince : Type 0
+AlwaysShortSince = (numbers : ℕ → ℕ) (terms : Terms) (calls : List CallAt) → IsTimelyWithStartsBut (GoByShortSince numbers terms calls) numbers terms calls → IsTimelyWithStarts numbers terms calls
 
 -- It becomes whole, whoever started anew before.
 abbrev pub RestartedBecomeWhole : Type 0

@@ -1,5 +1,5 @@
 -- Hosts in real time, by the lines that they perform. A self-managing host performs such lines, one after the other.
-use Rattle.std.specs.Prelude.{◌≡◌, ◌≢◌, ◌⊎◌, ℕ, ◌+◌, ◌<◌, ◌≤◌, Bool, true, false, map, max, List, [], ◌∷◌, ◌++◌, Contains, Some, nat_eq, nat_le, if◌then◌else◌}
+use Rattle.std.specs.Prelude.{◌≡◌, ◌≢◌, ◌⊎◌, ℕ, ◌+◌, ◌*◌, ◌-◌, ◌<◌, ◌≤◌, Bool, true, false, map, max, List, [], ◌∷◌, ◌++◌, Contains, Some, nat_eq, nat_le, if◌then◌else◌}
 use Rattle.wb_names.specs.Values.{DrawopValue, NameValue}
 use Rattle.wb_codec.specs.declared.datagram.Datagram.{Datagram}
 use Rattle.wb_codec.specs.declared.datagram.Datagram.TheVariants.{Draw, Session, Request, AskPages, PageState}
@@ -8,7 +8,7 @@ use Rattle.wb_recovery.specs.declared.timers.AskTimer.{AskTimer}
 use Rattle.wb_recovery.specs.declared.timers.Timers.{Timers}
 use Rattle.wb_recovery.specs.declared.tuning.Tuning.{Tuning}
 use Rattle.wb_progress.specs.InTime.{answering_by, known_from, repairing}
-use Rattle.wb_progress.specs.Bounds.{IsUnder}
+use Rattle.wb_progress.specs.Bounds.{AreAnswersNear, IsUnder}
 use Rattle.wb_progress.specs.Keepers.{is_request}
 use Rattle.wb_progress.specs.Turns.{AreNotOverdue, IsNowAt, Terms, longest, quiet_span, settled_by}
 use Rattle.wb_member.specs.Judged.{delay, holds, is_full}
@@ -18,7 +18,7 @@ use Rattle.wb_policy.specs.declared.limits.TheConstants.{MOST_DELAY}
 use Rattle.wb_keeping.specs.Kept.{Line, Arrives, Says, Calls, ticks_at}
 use Rattle.wb_keeping.specs.Laws.{KeptLine, Came, Ticked, Added, Tuned, doing_of}
 use Rattle.wb_keeping.specs.Performing.{after_line, after_lines, sees, sent_by_doing, sent_by_line}
-use Rattle.wb_kept_progress.specs.Sessions.{AreTaken, DoNotGoBack, LineAt, Opening, kept_at}
+use Rattle.wb_kept_progress.specs.Sessions.{AreTaken, LineAt, Opening, kept_at}
 
 -- ---- a trace
 
@@ -112,9 +112,16 @@ goes_by_delays (Calls (Ask name)) = true
 goes_by_delays (Says v) = is_drawop v
 goes_by_delays (Calls call) = false
 
--- no line at a live place goes by a delay above `far`
+-- no line at a live place goes by a delay above `far`, from the opening of its host on
 abbrev pub GoByShort : (ℕ → Start) → Terms → List Performed → Type 0
 GoByShort hosts terms trace = (newer older : List Performed) (e : Performed) (source : ℕ) → trace ≡ newer ++ e ∷ older → Contains terms.live e.place → goes_by_delays e.line ≡ true → delay (host_after hosts older e.place) source ≤ terms.far
+
+-- From `quiet` on no line at a live place goes by a delay above `far`, and what stands there at `quiet` ends as soon as if none had before: a request timer
+-- that was not backed off, an answer timer, and that a name is quiet.
+pub record DelaysAreShort (hosts : ℕ → Start) (terms : Terms) (trace : List Performed) : Type 0 where
+  pub goes : (newer older : List Performed) (e : Performed) (source : ℕ) → trace ≡ newer ++ e ∷ older → Contains terms.live e.place → terms.quiet < e.time → goes_by_delays e.line ≡ true → delay (host_after hosts older e.place) source ≤ terms.far
+  pub asks : (i : ℕ) (n : NameValue) (ask : AskTimer) → Contains terms.live i → (timers_after hosts (until terms.quiet trace) i n).ask ≡ Some ask → ask.level ≡ 0 → ask.due + terms.lag i ≤ terms.quiet + terms.asking * terms.far
+  pub answers : (i : ℕ) (n : NameValue) → Contains terms.live i → AreAnswersNear (longest terms) terms.far (terms.quiet - terms.lag i) (timers_after hosts (until terms.quiet trace) i n)
 
 -- The terms are those of wb_progress: nothing is asked of reports, and of what is asked for and given up.
 pub record IsTimely (hosts : ℕ → Start) (terms : Terms) (trace : List Performed) : Type 0 where
@@ -122,16 +129,14 @@ pub record IsTimely (hosts : ℕ → Start) (terms : Terms) (trace : List Perfor
   pub waits : (i : ℕ) → Contains terms.live i → IsUnder (longest terms) (hosts i).constants
   pub tuned : (newer older : List Performed) (i : ℕ) → trace ≡ newer ++ older → Contains terms.live i → let host = host_after hosts older i in IsUnder (longest terms) (constants_after host.is.constants (events host))
   pub order : AreInOrder trace
-  -- moments do not go back at a live place; the last before its first line is one of `quiet` or before
-  pub moments : (i : ℕ) → Contains terms.live i → DoNotGoBack 0 (hosts i).moments
+  -- the last moment before the first line of a live place is one of `quiet` or before
   pub begun : (i : ℕ) → Contains terms.live i → present (host_after hosts [] i) + terms.lag i ≤ terms.quiet
-  pub onward : (newer older : List Performed) (e : Performed) (now : ℕ) → trace ≡ newer ++ e ∷ older → Contains terms.live e.place → e.line ≡ Calls (Tick now) → present (host_after hosts older e.place) ≤ now
   -- a tick makes it a moment of its time, and a datagram is heard at such a moment
   pub times : (newer older : List Performed) (e : Performed) (now : ℕ) → trace ≡ newer ++ e ∷ older → Contains terms.live e.place → e.line ≡ Calls (Tick now) → IsNowAt terms e.time e.place now
   pub behind : (newer older : List Performed) (e : Performed) (v : Datagram) → trace ≡ newer ++ e ∷ older → Contains terms.live e.place → e.line ≡ Calls (Hear v) → IsNowAt terms e.time e.place (present (host_after hosts older e.place))
   -- from `quiet` on a tick comes once a timer is due: until a line comes, no timer that stands at a live place is overdue
   pub soon : (newer older : List Performed) (e : Performed) (i : ℕ) (m : NameValue) → trace ≡ newer ++ e ∷ older → Contains terms.live i → terms.quiet < e.time → AreNotOverdue (timers_after hosts older i m) e.time (terms.lag i + terms.late)
-  pub delays : GoByShort hosts terms trace
+  pub delays : DelaysAreShort hosts terms trace
   -- from `quiet` on
   pub alone : (newer older : List Performed) (e : Performed) → trace ≡ newer ++ e ∷ older → terms.quiet < e.time → Contains terms.live e.place
   pub quiet : (newer older : List Performed) (e : Performed) → trace ≡ newer ++ e ∷ older → terms.quiet < e.time → IsQuietLine e.line

@@ -24,7 +24,7 @@ use Rattle.wb_keeping.specs.Laws.{Added, Came, Tuned, doing_of}
 use Rattle.wb_keeping.specs.Performing.{Keeping, due, sent_by_doing}
 use Rattle.wb_judging.specs.Members.{needs}
 use Rattle.wb_kept_progress.specs.Sessions.{AreTaken, DoNotGoBack, Opening, kept_at, opened_host}
-use Rattle.wb_kept_progress.specs.Timed.{AllKeptHoldBehind, GoByShort, IsAnswerable, Performed, TellTimes, TimedLine, called_at, host_after, lines_of, performed, start_of, timers_after, until}
+use Rattle.wb_kept_progress.specs.Timed.{AllKeptHoldBehind, DelaysAreShort, GoByShort, IsAnswerable, Performed, TellTimes, TimedLine, called_at, host_after, lines_of, performed, start_of, timers_after, until}
 
 -- the host at a place, with its policy, after some calls, of which the newest is the first
 abbrev pub there : (ℕ → Opening) → List TimedLine → ℕ → Keeping
@@ -70,8 +70,9 @@ pub record WasSentBy (hosts : ℕ → Opening) (older : List TimedLine) (time wi
 
 -- Drivers and the network keep to the terms. From `quiet` on they alone are called, and in time, each of
 -- their boards has a free cell, and nobody draws; what one sends is handed in to each other one in time, unless that one can do without it. What comes
--- once all that was on its way has arrived was sent shortly before. A live host may be handed its first line at any time up to `quiet`.
-pub record IsTimelySession (hosts : ℕ → Opening) (terms : Terms) (trace : List TimedLine) : Type 0 where
+-- once all that was on its way has arrived was sent shortly before. A live host may be handed its first line at any time up to `quiet`. Of delays this is
+-- asked.
+pub record IsTimelySessionBut (Delays : Type 0) (hosts : ℕ → Opening) (terms : Terms) (trace : List TimedLine) : Type 0 where
   -- moments do not go back; the last before a live host becomes self-managing is one of `quiet` or before
   pub moments : (i : ℕ) → DoNotGoBack 0 (hosts i).moments
   pub begun : (i : ℕ) → Contains terms.live i → present (opened_host (hosts i)) + terms.lag i ≤ terms.quiet
@@ -85,14 +86,21 @@ pub record IsTimelySession (hosts : ℕ → Opening) (terms : Terms) (trace : Li
   pub covered : terms.drift ≤ terms.late
   -- from `quiet` on a call of a live host comes at most `late` after the moment at which it has something to do
   pub soon : (newer older : List TimedLine) (e : TimedLine) (i : ℕ) → trace ≡ newer ++ e ∷ older → Contains terms.live i → terms.quiet < e.time → e.time ≤ due (there hosts older i) + (terms.lag i + terms.late)
-  -- of delays nothing is asked if `far` is a second or more
-  pub delays : (MOST_DELAY ≤ terms.far) ⊎ GoByShort (λ j. start_of (hosts j)) terms (performed hosts trace)
+  pub delays : Delays
   pub alone : (newer older : List TimedLine) (e : TimedLine) → trace ≡ newer ++ e ∷ older → terms.quiet < e.time → Contains terms.live e.at.place
   pub drawn : (newer older : List TimedLine) (e : TimedLine) (now : ℕ) (page : PageId) (time : ℕ) (op : Op) → trace ≡ newer ++ e ∷ older → terms.quiet < e.time → e.at.line ≢ Added now page time op
   pub room : (newer older : List TimedLine) (i : ℕ) → trace ≡ newer ++ older → Contains terms.live i → terms.quiet < called_at older → is_full (there hosts older i).host ≡ false
   pub delivered : (newer older : List TimedLine) (e : TimedLine) (j : ℕ) (v : Datagram) → trace ≡ newer ++ e ∷ older → Contains terms.live j → e.at.place ≢ j → terms.quiet < e.time → Contains (sends_then hosts older e) v → e.time + terms.delivery < called_at trace
       → IsHandedIn newer j (e.time + terms.delivery) v ⊎ IsSpared hosts newer (e ∷ older) j (e.time + terms.delivery) v
   pub fresh : (newer older : List TimedLine) (e : TimedLine) (now : ℕ) (v : Datagram) → trace ≡ newer ++ e ∷ older → settled_by terms < e.time → e.at.line ≡ Came now v → WasSentBy hosts older e.time terms.delivery v
+
+-- Of delays nothing is asked if `far` is a second or more, and with a smaller one nothing of what came long before `quiet`.
+abbrev pub IsTimelySession : (ℕ → Opening) → Terms → List TimedLine → Type 0
+IsTimelySession hosts terms trace = IsTimelySessionBut ((MOST_DELAY ≤ terms.far) ⊎ DelaysAreShort (λ j. start_of (hosts j)) terms (performed hosts trace)) hosts terms trace
+
+-- So it is if none is above `far` from the openings on.
+abbrev pub AlwaysShort : Type 0
+AlwaysShort = (hosts : ℕ → Opening) (terms : Terms) (trace : List TimedLine) → IsTimelySessionBut (GoByShort (λ j. start_of (hosts j)) terms (performed hosts trace)) hosts terms trace → IsTimelySession hosts terms trace
 
 -- The most that the board of a live host has from `quiet` on: slices of marks, counted with those of the page that it reported last, holes,
 -- and numbers in a hole. The most names that it gives up one after the other. And from `since` on, in microseconds, the most from a call to its

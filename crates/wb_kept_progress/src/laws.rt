@@ -7,19 +7,20 @@ ghost use Rattle.wb_kept_progress.specs.Crowded.{SessionsBecomeWholeInCrowds};
 ghost use Rattle.wb_kept_progress.specs.Examples.{LivelyMeets, PatientMeets};
 ghost use Rattle.wb_kept_progress.specs.Filling.{HolesAreFilled, SameReportsLeaveHoles};
 ghost use Rattle.wb_kept_progress.specs.Holed.{HoledMeets};
+ghost use Rattle.wb_kept_progress.specs.OnceFar.{OnceFarMeets};
 ghost use Rattle.wb_kept_progress.specs.Judged.{JudgedDrawopsAreShort, JudgedMembersSendFewBytes, JudgedMembersSendFewDrawops};
 ghost use Rattle.wb_kept_progress.specs.LeadsOn.{AskedLeadsOn, NeighboursAreAskedFor};
 ghost use Rattle.wb_kept_progress.specs.Promises.{Promises, PromisesSuffice};
 ghost use Rattle.wb_kept_progress.specs.Repairs.{AskedCanCome, MarksComeToBeTold, MissingCanCome, MissingIsAsked, MissingIsAskedInTurn, MissingIsAskedSoon, TurnsAsk};
 ghost use Rattle.wb_kept_progress.specs.Rounds.{SessionsBecomeWholeByRounds};
-ghost use Rattle.wb_kept_progress.specs.Since.{RestartedBecomeWhole, RestartedBecomeWholeByRounds, RestartedBecomeWholeInCrowds, RestartedFillHoles, SinceIsSame, SinceIsTimely};
+ghost use Rattle.wb_kept_progress.specs.Since.{AlwaysShortSince, RestartedBecomeWhole, RestartedBecomeWholeByRounds, RestartedBecomeWholeInCrowds, RestartedFillHoles, SinceIsSame, SinceIsTimely};
 ghost use Rattle.wb_kept_progress.specs.SoonSince.{RestartedBecomeWholeAnyway, RestartedBecomeWholeSoon};
 ghost use Rattle.wb_kept_progress.specs.Starts.{NoStateIsADeadEnd};
 ghost use Rattle.wb_kept_progress.specs.Telling.{EachMarkIsToldOfGrowing, HeldNumbersAreTold, LastNumbersAreTold};
 ghost use Rattle.wb_kept_progress.specs.Timed.{KeptGoByShort, KeptIsPerformed, KeptKeepsMoments, KeptRequestIsAnswered, KeptTimerLeadsOrIsGivenUp, RequestIsAnswered, TimerLeadsOrIsGivenUp};
 ghost use Rattle.wb_kept_progress.specs.Topped.{SessionsBecomeWholeAnyway, SessionsBecomeWholeSoon, TopsAreHeldAnyway, TopsAreHeldSoon};
 ghost use Rattle.wb_kept_progress.specs.Traffic.{DrawopsAreCalledFor, FewRequestsAreSent, LittleIsSent, NoAnswerStands};
-ghost use Rattle.wb_kept_progress.specs.Whole.{AllAreSoon, AllAreSoonByRates, LiveHostsAreCounted, ReportsAreDue, ReportsGoByRates, SessionsBecomeWhole};
+ghost use Rattle.wb_kept_progress.specs.Whole.{AllAreSoon, AllAreSoonByRates, AlwaysShort, LiveHostsAreCounted, ReportsAreDue, ReportsGoByRates, SessionsBecomeWhole};
 
 /// Whatever came in before, a drawop that one host asks for, and that another holds, comes by six
 /// more lines of the two. None of them is refused, and none hands in what was not sent.
@@ -78,11 +79,13 @@ pub fn what_is_asked_for_comes_in_time()
 /// A host that is self-managing after the moments of its opening is the host that performed the
 /// lines of its policy, each call at a time. If each call says a moment that the clock of its place
 /// may show then, a tick to that moment stands before all else that is performed in it. No line
-/// goes by a delay above a second, whatever echoes tell.
+/// goes by a delay above a second, whatever echoes tell. If none goes by one above a bound, what
+/// stands when nothing is lost any more ends as soon as the bound says.
 pub fn kept_hosts_perform_lines()
     ensures same { KeptIsPerformed }
     ensures moments { KeptKeepsMoments }
     ensures delays { KeptGoByShort }
+    ensures short { AlwaysShort }
 {}
 
 /// A session of self-managing hosts becomes whole. If from some time on nobody draws, nothing is
@@ -139,11 +142,13 @@ pub fn policies_keep_promises()
 /// premises of the laws: what is lost is asked for, and repaired. In one each host is called within
 /// 10 milliseconds. In another within 55 seconds, and it goes on until after two laws say that it
 /// is whole. In the third one of them holds the last of three drawings alone, and it goes on until
-/// after the law of holes says that both hold all.
+/// after the law of holes says that both hold all. A fourth keeps to the times with a smaller bound of
+/// delays than one that it went by before.
 pub fn terms_can_be_kept()
     ensures lively { LivelyMeets }
     ensures patient { PatientMeets }
     ensures holed { HoledMeets }
+    ensures once_far { OnceFarMeets }
 {}
 
 /// How often live hosts report. The next report of each is due within 96 seconds, whatever comes
@@ -192,6 +197,7 @@ pub fn little_is_sent()
 pub fn starts_begin_sessions()
     ensures same { SinceIsSame }
     ensures timely { SinceIsTimely }
+    ensures short { AlwaysShortSince }
     ensures whole { RestartedBecomeWhole }
     ensures rounds { RestartedBecomeWholeByRounds }
     ensures crowded { RestartedBecomeWholeInCrowds }

@@ -16,7 +16,7 @@ use Rattle.wb_lines.specs.Input.{InputLine, input_lines, standing, MayFollow, mo
 use Rattle.wb_lines.specs.Handling.{too_long}
 use Rattle.wb_lines.specs.Items.{finished, unreadable, endless, Items, over, group, Grouping, Begun, begin, closed, items_from}
 
--- How many lines were taken, and how many may be; what the reader has ahead; the line that was read last; and what was found after those that were taken.
+-- The lines of a driver: `done` of them were taken, of at most `most`. `line` was read last, and `seen` was found behind those that were taken.
 pub record LinesValue (S : Type 0) : Type 0 where
   pub done : ℕ
   pub most : ℕ
@@ -34,7 +34,7 @@ pub record IsRead (line : InputLine) (reader : Ahead) : Type 0 where
   pub is_line : IsLine line.bytes
   pub last : line.ended ≡ false → (line.bytes ≢ []) × (reader.bytes ≡ []) × (reader.ended ≡ true)
 
--- what is known of what was found
+-- What a driver knows of what it found, with what `says` tells of a line.
 abbrev pub IsFound : {S : Type 0} → (InputLine → S → Type 0) → ℕ → ℕ → Ahead → InputLine → Seen S → Type 0
 IsFound says done most reader line (seens.Line said) = (done < most) × IsRead line reader × says line said
 IsFound says done most reader line seens.TooLong = (done < most) × StartsLong line.bytes
@@ -59,7 +59,7 @@ held seen line = []
 abbrev pub unread : {S : Type 0} → LinesValue S → List ℕ
 unread v = held v.seen v.line ++ v.reader.bytes
 
--- What may still be pulled, and whether reading fails after it: nothing after the end or a failure.
+-- Whether these bytes may still come, and reading fail behind them if `cut`. Nothing comes after the end or a failure.
 abbrev pub MayComeTo : {S : Type 0} → Seen S → Bool → List ℕ → Bool → Type 0
 MayComeTo seens.Failed ended more cut = (more ≡ []) × (cut ≡ true)
 MayComeTo seen ended more cut = MayFollow ended more cut
@@ -67,7 +67,7 @@ MayComeTo seen ended more cut = MayFollow ended more cut
 abbrev pub MayCome : {S : Type 0} → LinesValue S → List ℕ → Bool → Type 0
 MayCome v more cut = MayComeTo v.seen v.reader.ended more cut
 
--- If this is still pulled, these items follow, with the group that is begun. If writing failed or memory ran out, no items are known to follow.
+-- The items that follow if these bytes still come; the first is the group that is begun, if there is one. After a failed write or allocation there are none.
 abbrev pub RestBy : {S : Type 0} → Grouping → LinesValue S → Option Begun → List ℕ → Bool → Items → Seen S → Type 0
 RestBy by v g more cut is seens.End = is ≡ closed g (over (finished v.done))
 RestBy by v g more cut is seens.Failed = is ≡ closed g (over unreadable)
@@ -81,7 +81,8 @@ Rest by v g more cut is = RestBy by v g more cut is v.seen
 
 -- ---- from one moment to another
 
--- The lines and what waits to be written; what the source has left, and whether it failed; what the sink has taken, and whether it failed.
+-- A driver between its source and its sink: its lines, and the output that is not written yet. `left` is in the source, which may have failed;
+-- `taken` is in the sink, which is stuck if it failed.
 pub record Moment (S : Type 0) : Type 0 where
   pub lines : LinesValue S
   pub output : List ℕ
@@ -93,16 +94,16 @@ pub record Moment (S : Type 0) : Type 0 where
 abbrev pub moment : {S : Type 0} → LinesValue S → List ℕ → Option (List ℕ) → Bool → Option (List ℕ) → Bool → Moment S
 moment lines output left failed taken stuck = record { lines = lines; output = output; left = left; failed = failed; taken = taken; stuck = stuck }
 
--- the same, of a source and a sink
+-- the moment of a driver with this source and this sink
 abbrev pub moment_of : {S R W : Type 0} → SourceOf R → SinkOf W → LinesValue S → List ℕ → R → W → Moment S
 moment_of R W lines output source sink = moment lines output (R.left source) (R.has_failed source) (W.taken sink) (W.has_failed sink)
 
--- The source or the sink was found to have failed only if it did.
+-- Each failure that was found did happen.
 pub record IsTrue {S : Type 0} (m : Moment S) : Type 0 where
   pub failed : m.lines.seen ≡ seens.Failed → m.failed ≡ true
   pub stuck : m.lines.seen ≡ seens.Unwritten → m.stuck ≡ true
 
--- Some bytes were pulled and some text was printed.
+-- The driver pulled `given` and printed `written`.
 pub record Moves {S : Type 0} (old new : Moment S) (written : List ℕ) : Type 0 where
   pub given : List ℕ
   pub pulls : Pulls old.lines.reader new.lines.reader old.left new.left old.failed new.failed given
@@ -118,7 +119,7 @@ abbrev pub grown_by : Option Begun → List InputLine → Option Begun
 grown_by None lines = None
 grown_by (Some g) lines = Some (record { number = g.number; first = g.first; joined = g.joined ++ lines })
 
--- If any lines join it, a line has others join it.
+-- Lines join a first line only if it gathers others.
 abbrev pub HasJoined : Grouping → InputLine → List InputLine → Type 0
 HasJoined by first [] = Unit {0}
 HasJoined by first (line ∷ lines) = by.gathers first ≡ true
@@ -128,23 +129,23 @@ Gathers by None [] = Unit {0}
 Gathers by None (line ∷ lines) = ⊥
 Gathers by (Some g) lines = HasJoined by g.first lines
 
--- What follows these lines, which join the group that is begun, if one is, followed before with them.
+-- The items are the same, whether these lines are still to be read or have joined the group that is begun.
 abbrev pub Joins : {S : Type 0} → Grouping → LinesValue S → LinesValue S → List ℕ → List InputLine → Type 0
 Joins by old new given joined = (g : Option Begun) (more : List ℕ) (cut : Bool) (is : Items) → Gathers by g joined → MayCome new more cut
     → Rest by new (grown_by g joined) more cut is → Rest by old g (given ++ more) cut is
 
--- These lines were taken, and join that group.
+-- The driver took these lines into the group that is begun.
 pub record Reads {S : Type 0} (by : Grouping) (old new : Moment S) (written : List ℕ) (joined : List InputLine) : Type 0 where
   pub moves : Moves old new written
   pub joins : Joins by old.lines new.lines moves.given joined
 
--- The next line, if there is one, does not join them.
+-- What was found does not join the group of this line.
 abbrev pub IsBehind : {S : Type 0} → Grouping → InputLine → Seen S → Type 0
 IsBehind by line (seens.Line said) = by.joins line ≡ false
 IsBehind by line seens.Nothing = ⊥
 IsBehind by line seen = Unit {0}
 
--- A group with this line as its first is at its end.
+-- The group that begins with this line is complete.
 abbrev pub IsGroupEnd : {S : Type 0} → Grouping → InputLine → LinesValue S → Type 0
 IsGroupEnd by first v = by.gathers first ≡ true → IsBehind by v.line v.seen
 
@@ -172,19 +173,19 @@ abbrev pub TakesLine : {S : Type 0} → (InputLine → S → Type 0) → LinesVa
 TakesLine says old new (Some said) = (old.seen ≡ seens.Line said) × (new ≡ with_one old) × (old.done < old.most) × IsRead old.line old.reader × says old.line said
 TakesLine says old new None = (IsLineSeen old.seen → ⊥) × (new ≡ old)
 
--- whether a line that was looked at joins those before it
+-- whether what was found joins the group of this line
 abbrev pub IsJoining : {S : Type 0} → Grouping → InputLine → Seen S → Bool → Type 0
 IsJoining by line (seens.Line said) joins = joins ≡ by.joins line
 IsJoining by line seen joins = joins ≡ false
 
--- The next line is taken if it joins those before it; else they are at their end, or no more lines can be read.
+-- The next line is taken if it joins the group. Else the group is complete.
 abbrev pub TakesJoined : {S : Type 0} → (InputLine → S → Type 0) → Grouping → Moment S → Moment S → Option S → Type 0
 TakesJoined says by old new (Some said) = (line : InputLine) × says line said × (by.joins line ≡ true) × (old.lines.done < new.lines.done) × Reads by old new [] (line ∷ [])
 TakesJoined says by old new None = Reads by old new [] [] × IsBehind by new.lines.line new.lines.seen
 
 -- ---- what a driver takes next
 
--- How it ends after what was found, if that is not a line.
+-- How the driver ends if it found no line.
 abbrev pub EndsBy : {S F : Type 0} → Seen S → Result (Option (First S)) (DriveFault F) → Type 0
 EndsBy seens.End result = result ≡ Ok None
 EndsBy seens.Failed result = result ≡ Err faults.Read
@@ -193,7 +194,7 @@ EndsBy seens.Unwritten result = result ≡ Err faults.Write
 EndsBy seens.Memory result = result ≡ Err faults.Memory
 EndsBy seen result = ⊥
 
--- What was looked at is taken if it is a line; else the driver ends.
+-- A line that was found is taken. Else the driver ends.
 abbrev pub TakesSeen : {S F : Type 0} → (InputLine → S → Type 0) → LinesValue S → LinesValue S → Result (Option (First S)) (DriveFault F) → Type 0
 TakesSeen says old new (Ok (Some (firsts.Line said))) = TakesLine says old new (Some said)
 TakesSeen says old new (Ok (Some firsts.TooLong)) = (old.seen ≡ seens.TooLong) × (new ≡ with_one old) × (old.done < old.most) × StartsLong old.line.bytes
@@ -204,12 +205,12 @@ abbrev pub IsFirst : {S : Type 0} → (InputLine → S → Type 0) → First S �
 IsFirst says (firsts.Line said) line = says line said
 IsFirst says firsts.TooLong line = StartsLong line.bytes
 
--- If this is still pulled, these items follow the lines before it: the group that it begins; or a line that is too long, of which the rest was not read.
+-- The items from this first line on: the group that it begins, or a line that is too long, of which the rest is still to be read.
 abbrev pub RestOf : {S : Type 0} → Grouping → First S → ℕ → LinesValue S → List ℕ → Bool → Items → Type 0
 RestOf by (firsts.Line said) n v more cut is = Rest by v (Some (begin v.done v.line)) more cut is
 RestOf by firsts.TooLong n v more cut is = is ≡ items_from by v.most cut n None (input_lines (v.line.bytes ++ (v.reader.bytes ++ more)))
 
--- It was taken: what follows now followed before.
+-- The first line of a group was taken. The items are the same as before.
 pub record TakesFirst {S : Type 0} (says : InputLine → S → Type 0) (by : Grouping) (old new : LinesValue S) (given : List ℕ) (first : First S) : Type 0 where
   pub taken : new.seen ≡ seens.Nothing
   pub count : new.done ≡ old.done + 1
@@ -222,7 +223,7 @@ abbrev pub TakesNext : {S F : Type 0} → (InputLine → S → Type 0) → Group
 TakesNext says by old new (Ok (Some first)) = (moves : Moves old new []) × TakesFirst says by old.lines new.lines moves.given first
 TakesNext says by old new result = Reads by old new [] [] × EndsBy new.lines.seen result
 
--- The rest of a line that is too long is passed over: what follows then is what follows the line.
+-- The rest of a line that is too long was passed over: the items are that line, and then those that follow now.
 abbrev pub PassesLine : {S : Type 0} → Grouping → LinesValue S → LinesValue S → List ℕ → Type 0
 PassesLine by old new given =
     (n : ℕ) → old.done ≡ n + 1 → StartsLong old.line.bytes → (more : List ℕ) (cut : Bool) (is : Items) → MayCome new more cut → Rest by new None more cut is
@@ -232,7 +233,7 @@ PassesLine by old new given =
 abbrev pub at_start : {S : Type 0} → ℕ → LinesValue S
 at_start most = record { done = 0; most = most; reader = record { bytes = []; ended = false }; line = record { bytes = []; ended = false }; seen = seens.Nothing }
 
--- what passing over a line came to
+-- what was found while the rest of a line was passed over
 abbrev pub found_over : {S : Type 0} → Found → Seen S
 found_over founds.Failed = seens.Failed
 found_over founds.TooLong = seens.TooMany

@@ -8,12 +8,14 @@ use Rattle.wb_recovery.specs.declared.timers.AnswerTimer.{AnswerTimer}
 use Rattle.wb_keeper.specs.Keeper.{KeeperCall, Hear}
 use Rattle.wb_progress.specs.Calls.{Brings, Fires, Answers}
 use Rattle.wb_progress.specs.InTime.{answering_by, RequestIsAnsweredBut}
-use Rattle.wb_progress.specs.Keepers.{AreWithin}
+use Rattle.wb_progress.specs.Bounds.{AreAnswersNear}
+use Rattle.wb_progress.specs.Keepers.{IsWithin}
 use Rattle.wb_progress.specs.Repairs.{timers_at}
 use Rattle.wb_progress.specs.Turns.{longest, Terms, quiet_span, settled_by, IsNowAt, Turn, Places, desk_at, has, timers_there, time_of, AreInOrder, IsAnswerable, AllHoldBehind, IsTurn, IsHeardAt, IsOtherOrLacked, KeepTimeBut}
-use Rattle.wb_progress.proofs.Calls.{answer_goes_on, requests_are_heard}
-use Rattle.wb_progress.proofs.Giving.{Spares, spares_held, desk_here, Called, changes, keeps, held_before, Gave, why_quiet, brought, answered, copy_comes}
+use Rattle.wb_progress.proofs.Calls.{answers_go_on, requests_are_heard}
+use Rattle.wb_progress.proofs.Giving.{Spares, spares_held, desk_here, Called, changes, keeps, held_before, Gave, moment_there, near_at, why_quiet, brought, answered, copy_comes}
 use Rattle.wb_progress.proofs.Parts.{before_end, order_of, in_past, joined}
+use Rattle.wb_progress.proofs.TimerBounds.{answers_later}
 
 module _ {MayStop : List Turn → Turn → NameValue → Type 0} (places : Places) (terms : Terms) (turns : List Turn) (is : KeepTimeBut MayStop places terms turns) where
   -- what all hold after one time they hold after each later one
@@ -44,12 +46,10 @@ module _ {MayStop : List Turn → Turn → NameValue → Type 0} (places : Place
           let le : e.time ≤ limit = omega (arith, not_over, soon) in
           ⊎_elim
           (λ (same : (desk_at places (e ∷ older) j).calls ≡ (desk_at places older j).calls). inl (ap (λ (calls : List KeeperCall). (timers_at (places.me j) (places.constants j) calls n).answer) same ∙ stands, le))
-          (λ (c : Called places terms turns is older e j).
-          let within = subst (AreWithin terms.far (longest terms) (places.me j) (places.constants j)) c.calls (is.are.within newer (e ∷ older) j split live) in
-          ⊎_elim
+          (λ (c : Called places terms turns is older e j). ⊎_elim
           (λ (s : (timers_at (places.me j) (places.constants j) (c.call ∷ (desk_at places older j).calls) n).answer ≡ Some answer). inl (ap (λ (calls : List KeeperCall). (timers_at (places.me j) (places.constants j) calls n).answer) c.calls ∙ s, le))
           (λ (g : Brings n c.call ⊎ Fires answer.due c.call). came le c g)
-          (answer_goes_on terms.far (places.me j) (longest terms) (places.constants j) c.call (desk_at places older j).calls n within answer stands))
+          (answers_go_on (places.me j) (places.constants j) c.call (desk_at places older j).calls n answer stands))
           (changes places terms turns is newer older e j split live)
 
     pub ends : (front middle base : List Turn) → turns ≡ front ++ (middle ++ base) → settled_by terms < time_of base → has places base j n ≡ true → (timers_there places base j n).answer ≡ Some answer → time_of base ≤ limit → Ends (middle ++ base)
@@ -110,9 +110,11 @@ module _ {MayStop : List Turn → Turn → NameValue → Type 0} (places : Place
       called : IsTurn places terms before x
       called = is.are.turn h.later before x whole (subst (Contains terms.live) (sym h.place) a.1)
 
+      there : h.held ≡ true
+      there = (called.heard h.now asker h.word n h.held h.heard).1 ∙ ap (λ (k : ℕ). has places before k n) h.place ∙ held
+
       at_j : (desk_at places (x ∷ before) j).calls ≡ Hear h.now (Request asker n) h.word true ∷ (desk_at places before j).calls
       at_j =
-          let there : h.held ≡ true = (called.heard h.now asker h.word n h.held h.heard).1 ∙ ap (λ (k : ℕ). has places before k n) h.place ∙ held in
           ap (λ d. d.calls) (desk_here places before x j h.place) ∙ h.heard ∙ ap (λ (b : Bool). Hear h.now (Request asker n) h.word b ∷ (desk_at places before x.place).calls) there ∙ ap (λ (k : ℕ). Hear h.now (Request asker n) h.word true ∷ (desk_at places before k).calls) h.place
 
       moment : IsNowAt terms x.time j h.now
@@ -121,8 +123,34 @@ module _ {MayStop : List Turn → Turn → NameValue → Type 0} (places : Place
       other : asker ≡ places.me j → ⊥
       other same = differ (is.are.apart e.place j lone a.1 (sym who.0 ∙ same))
 
-      within : AreWithin terms.far (longest terms) (places.me j) (places.constants j) (Hear h.now (Request asker n) h.word true ∷ (desk_at places before j).calls)
-      within = subst (AreWithin terms.far (longest terms) (places.me j) (places.constants j)) at_j (is.are.within h.later (x ∷ before) j whole a.1)
+      -- it is heard with near answers
+      abbrev call : KeeperCall
+      call = Hear h.now (Request asker n) h.word true
+
+      abbrev moment_then : ℕ
+      moment_then = moment_there places terms turns is (x ∷ before) j
+
+      live_there : Contains terms.live x.place
+      live_there = subst (Contains terms.live) (sym h.place) a.1
+
+      before_late : terms.quiet < time_of before
+      before_late = let b = before_end h.between (e ∷ older) order.1 in omega (arith, b, quiet_time)
+
+      behind : terms.quiet < x.time
+      behind = omega (arith, not_sooner, quiet_time)
+
+      within : IsWithin terms.far (longest terms) (places.me j) (places.constants j) call (desk_at places before j).calls
+      within = subst (λ (k : ℕ). IsWithin terms.far (longest terms) (places.me k) (places.constants k) call (desk_at places before k).calls) h.place
+          (is.are.within h.later before x call whole live_there behind (h.heard ∙ ap (λ (b : Bool). Hear h.now (Request asker n) h.word b ∷ (desk_at places before x.place).calls) there))
+
+      now_then : h.now ≤ moment_then
+      now_then = let m = moment.not_ahead in omega (arith, m, behind)
+
+      near_then : AreAnswersNear (longest terms) terms.far moment_then (timers_there places before j n)
+      near_then =
+          let b = order.0 in
+          answers_later (longest terms) terms.far (moment_there places terms turns is before j) moment_then (timers_there places before j n) (omega (arith, b))
+          (near_at places terms turns is (h.later ++ x ∷ []) before j n (whole ∙ sym (append_assoc h.later (x ∷ []) before)) before_late a.1)
 
       part_before : turns ≡ (h.later ++ x ∷ []) ++ before
       part_before = whole ∙ sym (append_assoc h.later (x ∷ []) before)
@@ -133,11 +161,11 @@ module _ {MayStop : List Turn → Turn → NameValue → Type 0} (places : Place
       -- the name came or was answered a little before
       from_quiet : h.now < (timers_there places before j n).quiet → AllHoldBehind places terms turns end n
       from_quiet lt = ⊎_elim
-          (λ (z : (timers_there places before j n).quiet ≡ 0). absurd (never _ z lt))
+          (λ (z : (timers_there places before j n).quiet + terms.lag j ≤ terms.quiet + 3 * terms.far). absurd (never (timers_there places before j n).quiet z lt))
           gave
-          (why_quiet places terms turns is (h.later ++ x ∷ []) before j n part_before a.1) where
-            never : (q : ℕ) → q ≡ 0 → h.now < q → ⊥
-            never q z lt = omega (arith, z, lt)
+          (why_quiet places terms turns is (h.later ++ x ∷ []) before j n part_before before_late a.1) where
+            never : (q : ℕ) → q + terms.lag j ≤ terms.quiet + 3 * terms.far → h.now < q → ⊥
+            never q z lt = let m = moment.not_behind in omega (arith, z, lt, m, not_sooner, later_yet)
 
             gave : Gave places terms turns is j n before (timers_there places before j n).quiet → AllHoldBehind places terms turns end n
             gave g =
@@ -161,7 +189,7 @@ module _ {MayStop : List Turn → Turn → NameValue → Type 0} (places : Place
                 g.gives
 
       -- an answer timer stands after it
-      from_timer : (answer : AnswerTimer) → (timers_at (places.me j) (places.constants j) (Hear h.now (Request asker n) h.word true ∷ (desk_at places before j).calls) n).answer ≡ Some answer → answer.due ≤ h.now + ((longest terms).d1 + (longest terms).d2) * terms.far → AllHoldBehind places terms turns end n
+      from_timer : (answer : AnswerTimer) → (timers_at (places.me j) (places.constants j) (Hear h.now (Request asker n) h.word true ∷ (desk_at places before j).calls) n).answer ≡ Some answer → answer.due ≤ moment_then + ((longest terms).d1 + (longest terms).d2) * terms.far → AllHoldBehind places terms turns end n
       from_timer answer stands due newest later i is_part lt live =
           let limit : ℕ = e.time + terms.delivery + terms.answering * terms.far + terms.late in
           let wait : ((longest terms).d1 + (longest terms).d2) * terms.far ≤ terms.answering * terms.far = mul-le-mul_right terms.far (omega arith) in
@@ -177,13 +205,13 @@ module _ {MayStop : List Turn → Turn → NameValue → Type 0} (places : Place
           ⊎_elim
           (λ (s : ((timers_there places (p.0 ++ (x ∷ before)) j n).answer ≡ Some answer) × (time_of (p.0 ++ (x ∷ before)) ≤ limit)). let le = s.1 in absurd (omega (arith, lt, le, top_is)))
           (λ (c : CopyBy n limit). c newest later i is_part (omega (arith, lt)) live)
-          (ends j n answer a.1 limit (omega (arith, due, wait, m, soon)) spares newest p.0 (x ∷ before) split_at (omega (arith, late, not_sooner)) has_it stands' (omega (arith, soon)))
+          (ends j n answer a.1 limit (omega (arith, due, wait, m, soon, behind)) spares newest p.0 (x ∷ before) split_at (omega (arith, late, not_sooner)) has_it stands' (omega (arith, soon)))
 
       pub all_hold : AllHoldBehind places terms turns end n
       all_hold = ⊎_elim
           from_quiet
-          (λ (r : (answer : AnswerTimer) × ((timers_at (places.me j) (places.constants j) (Hear h.now (Request asker n) h.word true ∷ (desk_at places before j).calls) n).answer ≡ Some answer) × (answer.due ≤ h.now + ((longest terms).d1 + (longest terms).d2) * terms.far)). from_timer r.0 r.1 r.2)
-          (requests_are_heard terms.far (places.me j) (longest terms) (places.constants j) (desk_at places before j).calls h.now asker h.word n other within)
+          (λ (r : (answer : AnswerTimer) × ((timers_at (places.me j) (places.constants j) (Hear h.now (Request asker n) h.word true ∷ (desk_at places before j).calls) n).answer ≡ Some answer) × (answer.due ≤ moment_then + ((longest terms).d1 + (longest terms).d2) * terms.far)). from_timer r.0 r.1 r.2)
+          (requests_are_heard terms.far (places.me j) (longest terms) (places.constants j) (desk_at places before j).calls h.now asker h.word moment_then n other within now_then near_then)
 
     pub answered_to_all : AllHoldBehind places terms turns (e.time + answering_by terms) n
     answered_to_all newest later i is_part lt live =

@@ -1,10 +1,10 @@
 -- What one call of a keeper makes of the timers of a name.
-use Rattle.std.proofs.Common.{◌≡◌, ℕ, ◌+◌, ◌*◌, ◌≤◌, ◌<◌, Bool, true, false, cond, List, [], ◌∷◌, Option, Some, None, refl, ap, ◌∙◌, sym, subst, arith, ◌⊎◌, inl, inr, ⊎_elim, eqb-true, eq-eqb, true≢false}
+use Rattle.std.proofs.Common.{◌≡◌, ℕ, ◌+◌, ◌*◌, ◌≤◌, Bool, true, false, cond, List, [], ◌∷◌, Option, Some, None, refl, ap, ◌∙◌, sym, subst, arith, ◌⊎◌, inl, inr, ⊎_elim, eqb-true, eq-eqb, true≢false}
 use Rattle.std.specs.Prelude.{Contains, IfSome, min, nat_eq, nat_le, is_none, ◌&&◌}
 use Rattle.std.proofs.Math.Nat.{mul-le-mul_left, mul-le-mul_right}
 use Rattle.wb_names.specs.Values.{NameValue}
 use Rattle.wb_names.specs.Orders.{same_name}
-use Rattle.wb_names.proofs.Orders.{same_name-is}
+use Rattle.wb_names.proofs.Orders.{same_name-here, same_name-is}
 use Rattle.wb_names.proofs.Listings.{Contains-here, Contains-there, Contains-cases, Contains-none}
 use Rattle.wb_codec.specs.declared.datagram.Datagram.{Datagram}
 use Rattle.wb_codec.specs.declared.datagram.Datagram.TheVariants.{Draw, Session, Request, AskPages, PageState}
@@ -18,13 +18,13 @@ use Rattle.wb_recovery.specs.declared.timers.AnswerTimer.{AnswerTimer}
 use Rattle.wb_recovery.specs.declared.timers.Timers.{Timers}
 use Rattle.wb_recovery.proofs.StoppedNames.{not_received, received_stops, timers_receipts}
 use Rattle.wb_keeper.specs.Keeper.{KeeperCall, SetDelay, SetConstants, Hear, Arrive, Miss, GoOn, Report, GiveUp, moment_at, delay_to, received_of, missed_of, events_of}
-use Rattle.wb_progress.specs.Bounds.{IsUnder, AreSteady}
+use Rattle.wb_progress.specs.Bounds.{IsUnder}
 use Rattle.wb_progress.specs.Calls.{Brings, Fires, Requests, Misses, AnswersGoOn, RequestsGoOn, Answers, QuietBegins, RequestsBegin, RequestsAreHeard}
-use Rattle.wb_progress.specs.Keepers.{AreWithin, constants_at, uses_delays}
+use Rattle.wb_progress.specs.Keepers.{IsWithin}
 use Rattle.wb_progress.specs.Repairs.{timers_at}
-use Rattle.wb_progress.proofs.KeeperBounds.{steady_within, within_now, near_within}
+use Rattle.wb_progress.proofs.KeeperBounds.{answers_stay_near}
 use Rattle.wb_progress.proofs.OneCall.{received_from, not_standing}
-use Rattle.wb_progress.proofs.Standing.{requests_are_taken}
+use Rattle.wb_progress.proofs.Standing.{taken}
 use Rattle.wb_progress.proofs.TimerBounds.{expiry_within}
 use Rattle.std.proofs.lemmas.Bool.{leb-true, false_from_ne_true}
 use Rattle.std.proofs.lemmas.Option.{same_Some, none-some}
@@ -38,12 +38,12 @@ record IsHeard (me : ℕ) (n : NameValue) (call : KeeperCall) (s next : Timers) 
   constants : Tuning
   becomes : next ≡ asked constants by.held by.now delay by.word s
 
--- it is missed: its request timer stays, or is set
-record IsMissed (far : ℕ) (bound : Tuning) (now : ℕ) (s next : Timers) : Type 0 where
+-- it is missed: its request timer stays, or is set, and is then due soon if the call fits
+record IsMissed (Fits : Type 0) (far : ℕ) (bound : Tuning) (now : ℕ) (s next : Timers) : Type 0 where
   answer : next.answer ≡ s.answer
   quiet : next.quiet ≡ s.quiet
   stays : (ask : AskTimer) → s.ask ≡ Some ask → next.ask ≡ Some ask
-  new : s.ask ≡ None → IfSome next.ask (λ (ask : AskTimer). ask.due ≤ now + (bound.c1 + bound.c2) * far)
+  new : Fits → s.ask ≡ None → IfSome next.ask (λ (ask : AskTimer). ask.due ≤ now + (bound.c1 + bound.c2) * far)
   lowest : s.ask ≡ None → IfSome next.ask (λ (ask : AskTimer). ask.level ≡ 0)
 
 -- a tick that did not stop this name
@@ -56,8 +56,11 @@ record IsTicked (call : KeeperCall) (s next : Timers) : Type 0 where
   constants : Tuning
   becomes : next ≡ ticked constants now word s
 
-abbrev Does : ℕ → ℕ → Tuning → NameValue → KeeperCall → Timers → Timers → Type 0
-Does far me bound n call s next = (next ≡ s) ⊎ ((Brings n call × (next.ask ≡ None)) ⊎ (IsHeard me n call s next ⊎ ((Misses n call × IsMissed far bound (moment_at (call ∷ [])) s next) ⊎ IsTicked call s next)))
+-- what a call does over older ones; it fits if it goes by no greater delay and constants
+abbrev Does : ℕ → ℕ → Tuning → Tuning → NameValue → KeeperCall → List KeeperCall → Timers → Timers → Type 0
+Does far me bound t n call calls s next =
+    (next ≡ s) ⊎ ((Brings n call × (next.ask ≡ None)) ⊎ (IsHeard me n call s next
+    ⊎ ((Misses n call × IsMissed (IsWithin far bound me t call calls) far bound (moment_at (call ∷ [])) s next) ⊎ IsTicked call s next)))
 
 -- ---- missed names
 
@@ -68,36 +71,36 @@ new_within bound t far now delay word under le =
     let k = mul-le-mul_right far under.0 in
     omega (arith, e, m, k)
 
-module _ (far : ℕ) (bound : Tuning) (now : ℕ) where
-  untouched : (s : Timers) → s.ask ≡ s.ask → IsMissed far bound now s s
-  untouched s e = record { answer = refl; quiet = refl; stays = λ ask h. h; new = λ none. subst (λ (o : Option AskTimer). IfSome o (λ (ask : AskTimer). ask.due ≤ now + (bound.c1 + bound.c2) * far)) (sym none) tt; lowest = λ none. subst (λ (o : Option AskTimer). IfSome o (λ (ask : AskTimer). ask.level ≡ 0)) (sym none) tt }
+module _ (Fits : Type 0) (far : ℕ) (bound : Tuning) (now : ℕ) where
+  untouched : (s : Timers) → s.ask ≡ s.ask → IsMissed Fits far bound now s s
+  untouched s e = record { answer = refl; quiet = refl; stays = λ ask h. h; new = λ fits none. subst (λ (o : Option AskTimer). IfSome o (λ (ask : AskTimer). ask.due ≤ now + (bound.c1 + bound.c2) * far)) (sym none) tt; lowest = λ none. subst (λ (o : Option AskTimer). IfSome o (λ (ask : AskTimer). ask.level ≡ 0)) (sym none) tt }
 
-  one_missed : (t : Tuning) (delay word : ℕ) (s : Timers) → IsUnder bound t → delay ≤ far → IsMissed far bound now s (noticed t now delay word s)
-  one_missed t delay word s under le = from s.ask refl where
-    from : (o : Option AskTimer) → s.ask ≡ o → IsMissed far bound now s (cond (is_none s.ask) (record s { ask = Some (new_ask t now delay word) }) s)
-    from (Some a) e = subst (λ (o : Option AskTimer). IsMissed far bound now s (cond (is_none o) (record s { ask = Some (new_ask t now delay word) }) s)) (sym e) (untouched s refl)
-    from None e = subst (λ (o : Option AskTimer). IsMissed far bound now s (cond (is_none o) (record s { ask = Some (new_ask t now delay word) }) s)) (sym e) (record {
+  one_missed : (t : Tuning) (delay word : ℕ) (s : Timers) → (Fits → IsUnder bound t × (delay ≤ far)) → IsMissed Fits far bound now s (noticed t now delay word s)
+  one_missed t delay word s fit = from s.ask refl where
+    from : (o : Option AskTimer) → s.ask ≡ o → IsMissed Fits far bound now s (cond (is_none s.ask) (record s { ask = Some (new_ask t now delay word) }) s)
+    from (Some a) e = subst (λ (o : Option AskTimer). IsMissed Fits far bound now s (cond (is_none o) (record s { ask = Some (new_ask t now delay word) }) s)) (sym e) (untouched s refl)
+    from None e = subst (λ (o : Option AskTimer). IsMissed Fits far bound now s (cond (is_none o) (record s { ask = Some (new_ask t now delay word) }) s)) (sym e) (record {
       answer = refl;
       quiet = refl;
       stays = λ ask h. absurd (none-some ask (sym e ∙ h));
-      new = λ none. new_within bound t far now delay word under le;
+      new = λ fits none. let f = fit fits in new_within bound t far now delay word f.0 f.1;
       lowest = λ none. refl;
     })
 
-  then_missed : (s mid next : Timers) → IsMissed far bound now s mid → IsMissed far bound now mid next → IsMissed far bound now s next
+  then_missed : (s mid next : Timers) → IsMissed Fits far bound now s mid → IsMissed Fits far bound now mid next → IsMissed Fits far bound now s next
   then_missed s mid next a b = record {
     answer = b.answer ∙ a.answer;
     quiet = b.quiet ∙ a.quiet;
     stays = λ ask h. b.stays ask (a.stays ask h);
-    new = λ none. from (λ (ask : AskTimer). ask.due ≤ now + (bound.c1 + bound.c2) * far) b.new mid.ask refl (a.new none);
+    new = λ fits none. from (λ (ask : AskTimer). ask.due ≤ now + (bound.c1 + bound.c2) * far) (b.new fits) mid.ask refl (a.new fits none);
     lowest = λ none. from (λ (ask : AskTimer). ask.level ≡ 0) b.lowest mid.ask refl (a.lowest none);
   } where
     from : (Q : AskTimer → Type 0) → (mid.ask ≡ None → IfSome next.ask Q) → (o : Option AskTimer) → mid.ask ≡ o → IfSome mid.ask Q → IfSome next.ask Q
     from Q new None e near = new e
     from Q new (Some ask) e near = subst (λ (o : Option AskTimer). IfSome o Q) (sym (b.stays ask e)) (subst (λ (o : Option AskTimer). IfSome o Q) e near)
 
-  module _ (t : Tuning) (delays : ℕ → ℕ) (short : (source : ℕ) → delays source ≤ far) (n : NameValue) where
-    all_missed : (names : List NameValue) (words : List ℕ) (events : List Event) → IsUnder bound (constants_after t events) → (timers_of t (notices now events (missed_of delays names words)) n ≡ timers_of t events n) ⊎ (Contains names n × IsMissed far bound now (timers_of t events n) (timers_of t (notices now events (missed_of delays names words)) n))
+  module _ (t : Tuning) (delays : ℕ → ℕ) (short : Fits → (source : ℕ) → delays source ≤ far) (n : NameValue) where
+    all_missed : (names : List NameValue) (words : List ℕ) (events : List Event) → (Fits → IsUnder bound (constants_after t events)) → (timers_of t (notices now events (missed_of delays names words)) n ≡ timers_of t events n) ⊎ (Contains names n × IsMissed Fits far bound now (timers_of t events n) (timers_of t (notices now events (missed_of delays names words)) n))
     all_missed [] words events under = inl refl
     all_missed (m ∷ names) [] events under = inl refl
     all_missed (m ∷ names) (w ∷ words) events under = from (same_name m n) refl (all_missed names words (Notice m now (delays m.source) w ∷ events) under) where
@@ -108,26 +111,26 @@ module _ (far : ℕ) (bound : Tuning) (now : ℕ) where
       end = timers_of t (notices now (Notice m now (delays m.source) w ∷ events) (missed_of delays names words)) n
 
       from : (b : Bool) → same_name m n ≡ b
-          → (end ≡ timers_of t (Notice m now (delays m.source) w ∷ events) n) ⊎ (Contains names n × IsMissed far bound now (timers_of t (Notice m now (delays m.source) w ∷ events) n) end)
-          → (end ≡ s) ⊎ (Contains (m ∷ names) n × IsMissed far bound now s end)
+          → (end ≡ timers_of t (Notice m now (delays m.source) w ∷ events) n) ⊎ (Contains names n × IsMissed Fits far bound now (timers_of t (Notice m now (delays m.source) w ∷ events) n) end)
+          → (end ≡ s) ⊎ (Contains (m ∷ names) n × IsMissed Fits far bound now s end)
       from true h rest =
           let first : timers_of t (Notice m now (delays m.source) w ∷ events) n ≡ noticed (constants_after t events) now (delays m.source) w s = ap (λ (b : Bool). cond b (noticed (constants_after t events) now (delays m.source) w s) s) h in
-          let one = subst (IsMissed far bound now s) (sym first) (one_missed (constants_after t events) (delays m.source) w s under (short m.source)) in
+          let one = subst (IsMissed Fits far bound now s) (sym first) (one_missed (constants_after t events) (delays m.source) w s (λ fits. (under fits, short fits m.source))) in
           let here : Contains (m ∷ names) n = subst (λ (k : NameValue). Contains (m ∷ names) k) (same_name-is m n h) (Contains-here m names) in
           ⊎_elim
-          (λ (e : end ≡ timers_of t (Notice m now (delays m.source) w ∷ events) n). inr (here, subst (IsMissed far bound now s) (sym e) one))
-          (λ (r : Contains names n × IsMissed far bound now (timers_of t (Notice m now (delays m.source) w ∷ events) n) end). inr (here, then_missed s _ end one r.1))
+          (λ (e : end ≡ timers_of t (Notice m now (delays m.source) w ∷ events) n). inr (here, subst (IsMissed Fits far bound now s) (sym e) one))
+          (λ (r : Contains names n × IsMissed Fits far bound now (timers_of t (Notice m now (delays m.source) w ∷ events) n) end). inr (here, then_missed s _ end one r.1))
           rest
       from false h rest =
           let first : timers_of t (Notice m now (delays m.source) w ∷ events) n ≡ s = ap (λ (b : Bool). cond b (noticed (constants_after t events) now (delays m.source) w s) s) h in
           ⊎_elim
           (λ (e : end ≡ timers_of t (Notice m now (delays m.source) w ∷ events) n). inl (e ∙ first))
-          (λ (r : Contains names n × IsMissed far bound now (timers_of t (Notice m now (delays m.source) w ∷ events) n) end). inr (Contains-there m n names r.0, subst (λ (k : Timers). IsMissed far bound now k end) first r.1))
+          (λ (r : Contains names n × IsMissed Fits far bound now (timers_of t (Notice m now (delays m.source) w ∷ events) n) end). inr (Contains-there m n names r.0, subst (λ (k : Timers). IsMissed Fits far bound now k end) first r.1))
           rest
 
 -- ---- each call
 
-module _ (far me : ℕ) (bound t : Tuning) (calls : List KeeperCall) (n : NameValue) (under : IsUnder bound (constants_at me t calls)) where
+module _ (far me : ℕ) (bound t : Tuning) (calls : List KeeperCall) (n : NameValue) where
   abbrev s : Timers
   s = timers_at me t calls n
 
@@ -144,7 +147,7 @@ module _ (far me : ℕ) (bound t : Tuning) (calls : List KeeperCall) (n : NameVa
     from false e = inl (timers_receipts t now events (received_of delays' names) n ∙ not_received now n s (received_of delays' names) e)
 
   abbrev Goal : KeeperCall → Type 0
-  Goal call = Does far me bound n call s (timers_at me t (call ∷ calls) n)
+  Goal call = Does far me bound t n call calls s (timers_at me t (call ∷ calls) n)
 
   hears : (now : ℕ) (v : Datagram) (word : ℕ) (held : Bool) → Goal (Hear now v word held)
   hears now (Request asker name) word held = from (nat_eq asker me) refl (same_name name n) refl where
@@ -152,7 +155,7 @@ module _ (far me : ℕ) (bound t : Tuning) (calls : List KeeperCall) (n : NameVa
     delay = delays (cond held asker name.source)
 
     Here : Timers → Type 0
-    Here next = Does far me bound n (Hear now (Request asker name) word held) s next
+    Here next = Does far me bound t n (Hear now (Request asker name) word held) calls s next
 
     from : (b : Bool) → nat_eq asker me ≡ b → (c : Bool) → same_name name n ≡ c → Here (timers_of t (cond (nat_eq asker me) events (Asked name held now delay word ∷ events)) n)
     from true e c f = subst (λ (b : Bool). Here (timers_of t (cond b events (Asked name held now delay word ∷ events)) n)) (sym e) (inl refl)
@@ -184,21 +187,21 @@ module _ (far me : ℕ) (bound t : Tuning) (calls : List KeeperCall) (n : NameVa
         one : (a b : NameValue) → Contains (a ∷ []) b → a ≡ b
         one a b c = ⊎_elim (λ (e : a ≡ b). e) (λ (none : Contains [] b). absurd (Contains-none b none)) (Contains-cases a b [] c)
 
-  does : (call : KeeperCall) → (uses_delays call ≡ true → (source : ℕ) → delay_to me calls source ≤ far) → Goal call
-  does (SetDelay source micros) short = inl refl
-  does (SetConstants constants) short = inl refl
-  does (Report now) short = inl refl
-  does (Hear now v word held) short = hears now v word held
-  does (Arrive now names) short = ⊎_elim
+  does : (call : KeeperCall) → Goal call
+  does (SetDelay source micros) = inl refl
+  does (SetConstants constants) = inl refl
+  does (Report now) = inl refl
+  does (Hear now v word held) = hears now v word held
+  does (Arrive now names) = ⊎_elim
       (λ (e : timers_of t (receipts now events (received_of delays names)) n ≡ s). inl e)
       (λ (c : Contains names n × ((timers_of t (receipts now events (received_of delays names)) n).ask ≡ None)). inr (inl c))
       (came now delays names)
-  does (Miss now [] words) short = inl refl
-  does (Miss now (m ∷ names) words) short = ⊎_elim
+  does (Miss now [] words) = inl refl
+  does (Miss now (m ∷ names) words) = ⊎_elim
       (λ (e : timers_of t (notices now events (missed_of delays (m ∷ names) words)) n ≡ s). inl e)
-      (λ (r : Contains (m ∷ names) n × IsMissed far bound now s (timers_of t (notices now events (missed_of delays (m ∷ names) words)) n)). inr (inr (inr (inl (record { now = now; names = m ∷ names; words = words; is = refl; named = r.0 }, r.1)))))
-      (all_missed far bound now t delays (short refl) n (m ∷ names) words events under)
-  does (GoOn now words stopped) short = ⊎_elim
+      (λ (r : Contains (m ∷ names) n × IsMissed (IsWithin far bound me t (Miss now (m ∷ names) words) calls) far bound now s (timers_of t (notices now events (missed_of delays (m ∷ names) words)) n)). inr (inr (inr (inl (record { now = now; names = m ∷ names; words = words; is = refl; named = r.0 }, r.1)))))
+      (all_missed (IsWithin far bound me t (Miss now (m ∷ names) words) calls) far bound now t delays (λ w. w.delays refl) n (m ∷ names) words events (λ w. w.constants))
+  does (GoOn now words stopped) = ⊎_elim
       (λ (e : timers_of t (receipts now events (received_of delays stopped)) n ≡ s). inr (inr (inr (inr (record {
         now = now;
         words = words;
@@ -210,7 +213,7 @@ module _ (far me : ℕ) (bound t : Tuning) (calls : List KeeperCall) (n : NameVa
       })))))
       (λ (c : Contains stopped n × ((timers_of t (receipts now events (received_of delays stopped)) n).ask ≡ None)). inr (inl (c.0, ap (fired_ask (constants_after t (receipts now events (received_of delays stopped))) now (word_for words (due_asks (names_of (receipts now events (received_of delays stopped))) (λ m. timers_of t (receipts now events (received_of delays stopped)) m) now) n)) c.1)))
       (came now delays stopped)
-  does (GiveUp now name asked) short = gives_up now name asked
+  does (GiveUp now name asked) = gives_up now name asked
 
 -- ---- laws
 
@@ -254,7 +257,7 @@ asked_no_ask t true now delay word s e = from (is_none s.answer && nat_le s.quie
 fires : {call : KeeperCall} {now : ℕ} {words : List ℕ} {stopped : List NameValue} (due : ℕ) → call ≡ GoOn now words stopped → due ≤ now → Fires due call
 fires {call} {now} {words} {stopped} due is le = record { now = now; words = words; stopped = stopped; is = is; due_by = le }
 
-module _ (far me : ℕ) (bound t : Tuning) (call : KeeperCall) (calls : List KeeperCall) (n : NameValue) (within : AreWithin far bound me t (call ∷ calls)) where
+module _ (far me : ℕ) (bound t : Tuning) (call : KeeperCall) (calls : List KeeperCall) (n : NameValue) where
   abbrev s_0 : Timers
   s_0 = timers_at me t calls n
 
@@ -268,7 +271,7 @@ module _ (far me : ℕ) (bound t : Tuning) (call : KeeperCall) (calls : List Kee
   Heard = IsHeard me n call s_0 s_1
 
   abbrev Missed : Type 0
-  Missed = Misses n call × IsMissed far bound (moment_at (call ∷ [])) s_0 s_1
+  Missed = Misses n call × IsMissed (IsWithin far bound me t call calls) far bound (moment_at (call ∷ [])) s_0 s_1
 
   abbrev Ticked : Type 0
   Ticked = IsTicked call s_0 s_1
@@ -278,9 +281,9 @@ module _ (far me : ℕ) (bound t : Tuning) (call : KeeperCall) (calls : List Kee
       ⊎_elim same (λ (r : Brought ⊎ (Heard ⊎ (Missed ⊎ Ticked))).
       ⊎_elim brought (λ (q : Heard ⊎ (Missed ⊎ Ticked)).
       ⊎_elim heard (λ (p : Missed ⊎ Ticked).
-      ⊎_elim missed ticks p) q) r) (does far me bound t calls n (within_now far bound t me calls within.3) call within.1)
+      ⊎_elim missed ticks p) q) r) (does far me bound t calls n call)
 
-  pub answer_goes_on : (answer : AnswerTimer) → s_0.answer ≡ Some answer → (s_1.answer ≡ Some answer) ⊎ (Brings n call ⊎ Fires answer.due call)
+  answer_goes_on : (answer : AnswerTimer) → s_0.answer ≡ Some answer → (s_1.answer ≡ Some answer) ⊎ (Brings n call ⊎ Fires answer.due call)
   answer_goes_on answer is = by_case
       (λ e. inl (ap (λ (k : Timers). k.answer) e ∙ is))
       (λ b. inr (inl b.0))
@@ -291,7 +294,7 @@ module _ (far me : ℕ) (bound t : Tuning) (call : KeeperCall) (calls : List Kee
       (λ (le : answer.due ≤ k.now). inr (inr (fires answer.due k.is le)))
       (answer_fires k.now answer))
 
-  pub ask_goes_on : (ask : AskTimer) → s_0.ask ≡ Some ask → (s_1.ask ≡ Some ask) ⊎ (Brought ⊎ (Fires ask.due call ⊎ Requests me n call))
+  ask_goes_on : (ask : AskTimer) → s_0.ask ≡ Some ask → (s_1.ask ≡ Some ask) ⊎ (Brought ⊎ (Fires ask.due call ⊎ Requests me n call))
   ask_goes_on ask is = by_case
       (λ e. inl (ap (λ (k : Timers). k.ask) e ∙ is))
       (λ b. inr (inl b))
@@ -302,9 +305,8 @@ module _ (far me : ℕ) (bound t : Tuning) (call : KeeperCall) (calls : List Kee
       (λ (le : ask.due ≤ k.now). inr (inr (inl (fires ask.due k.is le))))
       (ask_fires k.constants k.now k.word ask))
 
-  pub quiet_begins : (s_1.quiet ≡ s_0.quiet) ⊎ ((Brings n call ⊎ Answers me t calls n call) × (s_1.quiet ≤ moment_at (call ∷ calls) + 3 * far))
-  quiet_begins =
-      let near = (near_within far me bound t (call ∷ calls) within n).quiet in
+  quiet_begins : (moment : ℕ) → s_1.quiet ≤ moment + 3 * far → (s_1.quiet ≡ s_0.quiet) ⊎ ((Brings n call ⊎ Answers me t calls n call) × (s_1.quiet ≤ moment + 3 * far))
+  quiet_begins moment near =
       by_case
       (λ e. inl (ap (λ (k : Timers). k.quiet) e))
       (λ b. inr (inl b.0, near))
@@ -315,41 +317,45 @@ module _ (far me : ℕ) (bound t : Tuning) (call : KeeperCall) (calls : List Kee
       (λ (r : (answer : AnswerTimer) × (s_0.answer ≡ Some answer) × (answer.due ≤ k.now)). inr (inr (r.0, r.1, fires r.0.due k.is r.2), near))
       (quiet_fires k.now s_0.quiet s_0.answer))
 
-  pub ask_begins : (ask : AskTimer) → s_0.ask ≡ None → s_1.ask ≡ Some ask → Misses n call × (ask.due ≤ moment_at (call ∷ calls) + (bound.c1 + bound.c2) * far) × (ask.level ≡ 0)
+  ask_begins : (ask : AskTimer) → s_0.ask ≡ None → s_1.ask ≡ Some ask → Misses n call × (IsWithin far bound me t call calls → ask.due ≤ moment_at (call ∷ calls) + (bound.c1 + bound.c2) * far) × (ask.level ≡ 0)
   ask_begins ask none is = by_case
       (λ e. absurd (none-some ask (sym (ap (λ (k : Timers). k.ask) e ∙ none) ∙ is)))
       (λ b. absurd (none-some ask (sym b.1 ∙ is)))
       (λ h. absurd (none-some ask (sym (ap (λ (k : Timers). k.ask) h.becomes ∙ asked_no_ask h.constants h.by.held h.by.now h.delay h.by.word s_0 none) ∙ is)))
-      (λ m. (m.0, at_miss m.0 (subst (λ (o : Option AskTimer). IfSome o (λ (a : AskTimer). a.due ≤ moment_at (call ∷ []) + (bound.c1 + bound.c2) * far)) is (m.1.new none)), subst (λ (o : Option AskTimer). IfSome o (λ (a : AskTimer). a.level ≡ 0)) is (m.1.lowest none)))
+      (λ m. (m.0, λ w. at_miss m.0 (subst (λ (o : Option AskTimer). IfSome o (λ (a : AskTimer). a.due ≤ moment_at (call ∷ []) + (bound.c1 + bound.c2) * far)) is (m.1.new w none)), subst (λ (o : Option AskTimer). IfSome o (λ (a : AskTimer). a.level ≡ 0)) is (m.1.lowest none)))
       (λ k. absurd (none-some ask (sym (ap (λ (r : Timers). r.ask) k.becomes ∙ ap (fired_ask k.constants k.now k.word) none) ∙ is))) where
         at_miss : Misses n call → ask.due ≤ moment_at (call ∷ []) + (bound.c1 + bound.c2) * far → ask.due ≤ moment_at (call ∷ calls) + (bound.c1 + bound.c2) * far
         at_miss m le = subst (λ (k : ℕ). ask.due ≤ k + (bound.c1 + bound.c2) * far) (ap (λ (c : KeeperCall). moment_at (c ∷ [])) m.is ∙ sym (ap (λ (c : KeeperCall). moment_at (c ∷ calls)) m.is)) le
 
 pub answers_go_on : AnswersGoOn
-answers_go_on far me bound t call calls n answer within is = answer_goes_on far me bound t call calls n within answer is
+answers_go_on me t call calls n answer is = answer_goes_on 0 me t t call calls n answer is
 
 pub requests_go_on : RequestsGoOn
-requests_go_on far me bound t call calls n ask within is = ask_goes_on far me bound t call calls n within ask is
+requests_go_on me t call calls n ask is = ask_goes_on 0 me t t call calls n ask is
 
 pub quiet_begins_so : QuietBegins
-quiet_begins_so far me bound t call calls n within = quiet_begins far me bound t call calls n within
+quiet_begins_so far me bound t call calls moment n within by near = quiet_begins far me bound t call calls n moment (answers_stay_near far me bound t call calls moment n within by near).quiet
 
 pub requests_begin : RequestsBegin
-requests_begin far me bound t call calls n ask within none is = ask_begins far me bound t call calls n within ask none is
+requests_begin far me bound t call calls n ask none is = ask_begins far me bound t call calls n ask none is
 
 pub requests_are_heard : RequestsAreHeard
-requests_are_heard far me bound t calls now asker word n other within = subst Found (sym heard) (requests_are_taken bound t far n events now delay word (subst (AreSteady far bound t) heard (steady_within far bound t me (Hear now (Request asker n) word true ∷ calls) within).0)) where
+requests_are_heard far me bound t calls now asker word moment n other within by near =
+    taken bound (constants_after t events) far moment now delay word s (timers_at me t (Hear now (Request asker n) word true ∷ calls) n) heard
+    (answers_stay_near far me bound t (Hear now (Request asker n) word true) calls moment n within by near) where
   events : List Event
   events = events_of me calls
 
   delay : ℕ
   delay = delay_to me calls asker
 
-  Found : List Event → Type 0
-  Found newer = (now < (timers_of t events n).quiet) ⊎ ((answer : AnswerTimer) × ((timers_of t newer n).answer ≡ Some answer) × (answer.due ≤ now + (bound.d1 + bound.d2) * far))
+  s : Timers
+  s = timers_of t events n
 
-  heard : events_of me (Hear now (Request asker n) word true ∷ calls) ≡ Asked n true now delay word ∷ events
-  heard = ap (λ (b : Bool). cond b events (Asked n true now delay word ∷ events)) (false_from_ne_true (nat_eq asker me) (λ e. other (eqb-true asker me e)))
+  heard : timers_at me t (Hear now (Request asker n) word true ∷ calls) n ≡ asked (constants_after t events) true now delay word s
+  heard =
+      ap (λ (b : Bool). timers_of t (cond b events (Asked n true now delay word ∷ events)) n) (false_from_ne_true (nat_eq asker me) (λ e. other (eqb-true asker me e)))
+      ∙ ap (λ (b : Bool). cond b (asked (constants_after t events) true now delay word s) s) (same_name-here n n refl)
 
 -- ---- a request timer that was not backed off
 
@@ -376,28 +382,31 @@ asked_fresh t true now delay word s ask e level = from (is_none s.answer && nat_
   from true e = e
   from false e = e
 
-missed_fresh : (far : ℕ) (bound : Tuning) (now : ℕ) (s next : Timers) (ask : AskTimer) → IsMissed far bound now s next → next.ask ≡ Some ask → (s.ask ≡ Some ask) ⊎ (ask.due ≤ now + (bound.c1 + bound.c2) * far)
-missed_fresh far bound now s next ask m e = from s.ask refl where
-  from : (o : Option AskTimer) → s.ask ≡ o → (s.ask ≡ Some ask) ⊎ (ask.due ≤ now + (bound.c1 + bound.c2) * far)
+missed_fresh : (Fits : Type 0) (far : ℕ) (bound : Tuning) (now : ℕ) (s next : Timers) (ask : AskTimer) → IsMissed Fits far bound now s next → next.ask ≡ Some ask → (s.ask ≡ Some ask) ⊎ (Fits → ask.due ≤ now + (bound.c1 + bound.c2) * far)
+missed_fresh Fits far bound now s next ask m e = from s.ask refl where
+  from : (o : Option AskTimer) → s.ask ≡ o → (s.ask ≡ Some ask) ⊎ (Fits → ask.due ≤ now + (bound.c1 + bound.c2) * far)
   from (Some a) is = inl (is ∙ sym (m.stays a is) ∙ e)
-  from None is = inr (subst (λ (o : Option AskTimer). IfSome o (λ (a : AskTimer). a.due ≤ now + (bound.c1 + bound.c2) * far)) e (m.new is))
+  from None is = inr (λ fits. subst (λ (o : Option AskTimer). IfSome o (λ (a : AskTimer). a.due ≤ now + (bound.c1 + bound.c2) * far)) e (m.new fits is))
 
--- If no delay and no constants are above the bound, it stood so before, or its name is missed by the call.
-pub fresh_ask : (far me : ℕ) (bound t : Tuning) (call : KeeperCall) (calls : List KeeperCall) (n : NameValue) → (uses_delays call ≡ true → (source : ℕ) → delay_to me calls source ≤ far) → IsUnder bound (constants_at me t calls)
-    → (ask : AskTimer) → (timers_at me t (call ∷ calls) n).ask ≡ Some ask → ask.level ≡ 0 → ((timers_at me t calls n).ask ≡ Some ask) ⊎ (Misses n call × (ask.due ≤ moment_at (call ∷ []) + (bound.c1 + bound.c2) * far))
-fresh_ask far me bound t call calls n short under ask is level = by (does far me bound t calls n under call short) where
+-- It stood so before, or its name is missed by the call, and it is due soon if the call goes by no greater delay and constants.
+pub fresh_ask : (far me : ℕ) (bound t : Tuning) (call : KeeperCall) (calls : List KeeperCall) (n : NameValue) (ask : AskTimer) → (timers_at me t (call ∷ calls) n).ask ≡ Some ask → ask.level ≡ 0
+    → ((timers_at me t calls n).ask ≡ Some ask) ⊎ (Misses n call × (IsWithin far bound me t call calls → ask.due ≤ moment_at (call ∷ []) + (bound.c1 + bound.c2) * far))
+fresh_ask far me bound t call calls n ask is level = by (does far me bound t calls n call) where
   old : Timers
   old = timers_at me t calls n
 
   next : Timers
   next = timers_at me t (call ∷ calls) n
 
-  by : Does far me bound n call old next → (old.ask ≡ Some ask) ⊎ (Misses n call × (ask.due ≤ moment_at (call ∷ []) + (bound.c1 + bound.c2) * far))
+  Fits : Type 0
+  Fits = IsWithin far bound me t call calls
+
+  by : Does far me bound t n call calls old next → (old.ask ≡ Some ask) ⊎ (Misses n call × (Fits → ask.due ≤ moment_at (call ∷ []) + (bound.c1 + bound.c2) * far))
   by (inl same) = inl (sym (ap (λ (s : Timers). s.ask) same) ∙ is)
   by (inr (inl brought)) = absurd (none-some ask (sym brought.1 ∙ is))
   by (inr (inr (inl heard))) = inl (asked_fresh heard.constants heard.by.held heard.by.now heard.delay heard.by.word old ask (sym (ap (λ (s : Timers). s.ask) heard.becomes) ∙ is) level)
   by (inr (inr (inr (inl missed)))) = ⊎_elim
       (λ (stood : old.ask ≡ Some ask). inl stood)
-      (λ (due : ask.due ≤ moment_at (call ∷ []) + (bound.c1 + bound.c2) * far). inr (missed.0, due))
-      (missed_fresh far bound (moment_at (call ∷ [])) old next ask missed.1 is)
+      (λ (due : Fits → ask.due ≤ moment_at (call ∷ []) + (bound.c1 + bound.c2) * far). inr (missed.0, due))
+      (missed_fresh Fits far bound (moment_at (call ∷ [])) old next ask missed.1 is)
   by (inr (inr (inr (inr ticks)))) = inl (fired_fresh ticks.constants ticks.now ticks.word old.ask ask (sym (ap (λ (s : Timers). s.ask) ticks.becomes) ∙ is) level)

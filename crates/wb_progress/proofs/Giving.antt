@@ -1,5 +1,5 @@
 -- What the turns of live places tell: who is quiet why, and what is then sent.
-use Rattle.std.proofs.Common.{◌≡◌, ℕ, ◌+◌, ◌*◌, ◌<◌, ◌≤◌, Bool, true, false, cond, List, [], ◌∷◌, ◌++◌, Option, Some, None, refl, sym, ap, ◌∙◌, subst, arith, ◌⊎◌, inl, inr, ⊎_elim, append_assoc, max, eqb-true, eq-eqb, true≢false}
+use Rattle.std.proofs.Common.{◌≡◌, ℕ, ◌+◌, ◌*◌, ◌-◌, ◌<◌, ◌≤◌, Bool, true, false, cond, List, [], ◌∷◌, ◌++◌, Option, Some, None, refl, sym, ap, ◌∙◌, subst, arith, ◌⊎◌, inl, inr, ⊎_elim, append_assoc, max, eqb-true, eq-eqb, true≢false}
 use Rattle.std.specs.Prelude.{Contains, nat_eq, is_some, ◌||◌}
 use Rattle.wb_names.specs.Values.{NameValue, DrawopValue}
 use Rattle.wb_names.specs.Orders.{same_name}
@@ -13,12 +13,15 @@ use Rattle.wb_recovery.specs.declared.timers.AnswerTimer.{AnswerTimer}
 use Rattle.wb_keeper.specs.Ticks.{sent_by_tick}
 use Rattle.wb_keeper.specs.Keeper.{KeeperCall, SetDelay, SetConstants, Hear, Arrive, Miss, GoOn, Report, GiveUp, moment_at, events_of, holds}
 use Rattle.wb_progress.specs.Calls.{Brings, Fires, Answers}
-use Rattle.wb_progress.specs.Keepers.{AreWithin}
+use Rattle.wb_progress.specs.Bounds.{AreAnswersNear}
+use Rattle.wb_progress.specs.Keepers.{IsWithin}
 use Rattle.wb_progress.specs.Repairs.{timers_at}
 use Rattle.wb_progress.specs.Turns.{longest, Terms, settled_by, Turn, Places, desk_at, has, timers_there, time_of, AreInOrder, until, IsAnswerable, AllHoldBehind, Accepts, WasSent, IsOtherOrLacked, KeepTimeBut}
-use Rattle.wb_progress.proofs.Calls.{quiet_begins}
+use Rattle.wb_progress.proofs.Calls.{quiet_begins_so}
+use Rattle.wb_progress.proofs.KeeperBounds.{answers_stay_near}
 use Rattle.wb_progress.proofs.OneCall.{ticks_answer}
-use Rattle.wb_progress.proofs.Parts.{before_end, order_of, goes_on, joined}
+use Rattle.wb_progress.proofs.Parts.{AreFrom, IsSince, before_end, order_of, goes_on, joined, since, split_at}
+use Rattle.wb_progress.proofs.TimerBounds.{answers_later}
 use Rattle.std.proofs.lemmas.Bool.{le-leb}
 
 -- a name that is held is that of a drawop
@@ -90,6 +93,62 @@ module _ {MayStop : List Turn → Turn → NameValue → Type 0} (places : Place
       subst (λ (t : List Turn). has places t a.0 n ≡ true) (sym part) (keeps (newer ++ e ∷ []) g.0 (until (settled_by terms) turns) a.0 n
       (split ∙ sym (append_assoc newer (e ∷ []) older) ∙ ap (λ (t : List Turn). (newer ++ e ∷ []) ++ t) part) a.1 a.2)
 
+  -- ---- from `quiet` on answers are near
+
+  abbrev at_quiet : List Turn
+  at_quiet = until terms.quiet turns
+
+  -- the time of a part, or `quiet`, as the clock of a place may tell it at the latest
+  abbrev pub moment_there : List Turn → ℕ → ℕ
+  moment_there part i = max (time_of part) terms.quiet - terms.lag i
+
+  abbrev pub NearAt : ℕ → NameValue → ℕ → List KeeperCall → Type 0
+  NearAt i n moment calls = AreAnswersNear (longest terms) terms.far moment (timers_at (places.me i) (places.constants i) calls n)
+
+  abbrev pub IsNearAt : ℕ → NameValue → List Turn → Type 0
+  IsNearAt i n part = NearAt i n (moment_there part i) (desk_at places part i).calls
+
+  pub within_at : (newer older : List Turn) (e : Turn) (i : ℕ) → turns ≡ newer ++ e ∷ older → Live i → terms.quiet < e.time → (c : Called older e i)
+      → IsWithin terms.far (longest terms) (places.me i) (places.constants i) c.call (desk_at places older i).calls
+  within_at newer older e i split live late c = subst (λ (k : ℕ). IsWithin terms.far (longest terms) (places.me k) (places.constants k) c.call (desk_at places older k).calls) c.place
+      (is.are.within newer older e c.call split (subst (Contains terms.live) (sym c.place) live) late c.accepts)
+
+  -- a call is not after that moment
+  called_by : (newer older : List Turn) (e : Turn) (i : ℕ) → turns ≡ newer ++ e ∷ older → Live i → (c : Called older e i) → moment_at (c.call ∷ (desk_at places older i).calls) ≤ moment_there (e ∷ older) i
+  called_by newer older e i split live c = by (moment_at (desk_at places (e ∷ older) i).calls) (ap moment_at c.calls) (is.are.clock newer (e ∷ older) i split live) where
+    by : (clock : ℕ) → clock ≡ moment_at (c.call ∷ (desk_at places older i).calls) → clock + terms.lag i ≤ max e.time terms.quiet → moment_at (c.call ∷ (desk_at places older i).calls) ≤ moment_there (e ∷ older) i
+    by clock same le = omega (arith, same, le)
+
+  near_before : (newer older : List Turn) (e : Turn) (i : ℕ) (n : NameValue) → turns ≡ newer ++ e ∷ older → IsNearAt i n older → NearAt i n (moment_there (e ∷ older) i) (desk_at places older i).calls
+  near_before newer older e i n split near =
+      let o = (order_of newer (e ∷ older) (order_at newer (e ∷ older) split)).0 in
+      answers_later (longest terms) terms.far (moment_there older i) (moment_there (e ∷ older) i) (timers_there places older i n) (omega (arith, o)) near
+
+  near_one : (newer older : List Turn) (e : Turn) (i : ℕ) (n : NameValue) → turns ≡ newer ++ e ∷ older → Live i → terms.quiet < e.time → IsNearAt i n older → IsNearAt i n (e ∷ older)
+  near_one newer older e i n split live late near =
+      let calls = (desk_at places older i).calls in
+      let moment = moment_there (e ∷ older) i in
+      let before = near_before newer older e i n split near in
+      ⊎_elim
+      (λ (same : (desk_at places (e ∷ older) i).calls ≡ calls). subst (NearAt i n moment) (sym same) before)
+      (λ (c : Called older e i). subst (NearAt i n moment) (sym c.calls)
+      (answers_stay_near terms.far (places.me i) (longest terms) (places.constants i) c.call calls moment n (within_at newer older e i split live late c) (called_by newer older e i split live c) before))
+      (changes newer older e i split live)
+
+  near_since : (newer middle : List Turn) (i : ℕ) (n : NameValue) → turns ≡ newer ++ (middle ++ at_quiet) → AreFrom (terms.quiet + 1) middle → Live i → IsNearAt i n (middle ++ at_quiet)
+  near_since newer [] i n split behind live = answers_later (longest terms) terms.far (terms.quiet - terms.lag i) (moment_there at_quiet i) (timers_there places at_quiet i n) (omega arith) (is.are.near i n live)
+  near_since newer (e ∷ middle) i n split behind live =
+      let late = behind.0 in
+      near_one newer (middle ++ at_quiet) e i n split live (omega (arith, late)) (near_since (newer ++ e ∷ []) middle i n (split ∙ sym (append_assoc newer (e ∷ []) (middle ++ at_quiet))) behind.1 live)
+
+  since_quiet : (newer part : List Turn) → turns ≡ newer ++ part → terms.quiet < time_of part → IsSince terms.quiet turns part
+  since_quiet newer part split late = since terms.quiet turns newer part is.order split late
+
+  pub near_at : (newer part : List Turn) (i : ℕ) (n : NameValue) → turns ≡ newer ++ part → terms.quiet < time_of part → Live i → IsNearAt i n part
+  near_at newer part i n split late live =
+      let p = since_quiet newer part split late in
+      subst (IsNearAt i n) (sym p.split) (near_since newer p.middle i n (split ∙ ap (λ (t : List Turn). newer ++ t) p.split) p.behind live)
+
   -- ---- why a name is quiet
 
   abbrev pub Gives : ℕ → NameValue → List Turn → KeeperCall → Type 0
@@ -104,45 +163,58 @@ module _ {MayStop : List Turn → Turn → NameValue → Type 0} (places : Place
     pub gives : Gives i n older called.call
     pub until : quiet + terms.lag i ≤ max e.time terms.quiet + 3 * terms.far
 
+  -- it is quiet until three delays after `quiet` at most, or for a cause
   abbrev pub WhyQuiet : ℕ → NameValue → List Turn → Type 0
-  WhyQuiet i n part = ((timers_there places part i n).quiet ≡ 0) ⊎ Gave i n part (timers_there places part i n).quiet
+  WhyQuiet i n part = ((timers_there places part i n).quiet + terms.lag i ≤ terms.quiet + 3 * terms.far) ⊎ Gave i n part (timers_there places part i n).quiet
 
-  earlier : (i : ℕ) (n : NameValue) (e : Turn) (older : List Turn) (a b : ℕ) → a ≡ b → ((b ≡ 0) ⊎ Gave i n older b) → ((a ≡ 0) ⊎ Gave i n (e ∷ older) a)
+  earlier : (i : ℕ) (n : NameValue) (e : Turn) (older : List Turn) (a b : ℕ) → a ≡ b → ((b + terms.lag i ≤ terms.quiet + 3 * terms.far) ⊎ Gave i n older b) → ((a + terms.lag i ≤ terms.quiet + 3 * terms.far) ⊎ Gave i n (e ∷ older) a)
   earlier i n e older a b same h = ⊎_elim
-      (λ (z : b ≡ 0). inl (same ∙ z))
+      (λ (z : b + terms.lag i ≤ terms.quiet + 3 * terms.far). inl (omega (arith, same, z)))
       (λ (g : Gave i n older b). inr (record { newer = e ∷ g.newer; e = g.e; older = g.older; split = ap (λ (t : List Turn). e ∷ t) g.split; called = g.called; gives = g.gives; until = subst (λ (q : ℕ). q + terms.lag i ≤ max g.e.time terms.quiet + 3 * terms.far) (sym same) g.until }))
       h
 
   abbrev q : ℕ → NameValue → List KeeperCall → ℕ
   q i n calls = (timers_at (places.me i) (places.constants i) calls n).quiet
 
-  at_time : (a b quiet moment lag clock : ℕ) → a ≡ quiet → b ≡ moment → quiet ≤ moment + 3 * terms.far → b + lag ≤ clock → a + lag ≤ clock + 3 * terms.far
-  at_time a b quiet moment lag clock e f le by = omega (arith, e, f, le, by)
+  at_time : (a quiet clock moment lag : ℕ) → a ≡ quiet → quiet ≤ (moment - lag) + 3 * terms.far → clock + lag ≤ moment → a + lag ≤ moment + 3 * terms.far
+  at_time a quiet clock moment lag e le by = omega (arith, e, le, by)
 
-  called_quiet : (newer older : List Turn) (e : Turn) (i : ℕ) (n : NameValue) → turns ≡ newer ++ e ∷ older → Live i → WhyQuiet i n older → Called older e i → WhyQuiet i n (e ∷ older)
-  called_quiet newer older e i n split live rest c =
+  called_quiet : (newer older : List Turn) (e : Turn) (i : ℕ) (n : NameValue) → turns ≡ newer ++ e ∷ older → Live i → terms.quiet < e.time → IsNearAt i n older → WhyQuiet i n older → Called older e i → WhyQuiet i n (e ∷ older)
+  called_quiet newer older e i n split live late near rest c =
       let calls : List KeeperCall = (desk_at places older i).calls in
+      let moment : ℕ = moment_there (e ∷ older) i in
       ⊎_elim
       (λ (same : q i n (c.call ∷ calls) ≡ q i n calls). earlier i n e older _ _ (ap (q i n) c.calls ∙ same) rest)
-      (λ (g : Gives i n older c.call × (q i n (c.call ∷ calls) ≤ moment_at (c.call ∷ calls) + 3 * terms.far)). inr (record {
+      (λ (g : Gives i n older c.call × (q i n (c.call ∷ calls) ≤ moment + 3 * terms.far)). inr (record {
         newer = [];
         e = e;
         older = older;
         split = refl;
         called = c;
         gives = g.0;
-        until = at_time _ _ _ _ _ _ (ap (q i n) c.calls) (ap moment_at c.calls) g.1 (is.are.clock newer (e ∷ older) i split live);
+        until = at_time _ _ _ (max e.time terms.quiet) _ (ap (q i n) c.calls) g.1 (is.are.clock newer (e ∷ older) i split live);
       }))
-      (quiet_begins terms.far (places.me i) (longest terms) (places.constants i) c.call calls n (subst (AreWithin terms.far (longest terms) (places.me i) (places.constants i)) c.calls (is.are.within newer (e ∷ older) i split live)))
+      (quiet_begins_so terms.far (places.me i) (longest terms) (places.constants i) c.call calls moment n (within_at newer older e i split live late c) (called_by newer older e i split live c) (near_before newer older e i n split near))
 
-  pub why_quiet : (newer part : List Turn) (i : ℕ) (n : NameValue) → turns ≡ newer ++ part → Live i → WhyQuiet i n part
-  why_quiet newer [] i n split live = inl (is.are.first i n live)
-  why_quiet newer (e ∷ older) i n split live =
-      let rest = why_quiet (newer ++ e ∷ []) older i n (split ∙ sym (append_assoc newer (e ∷ []) older)) live in
+  quiet_since : (newer middle : List Turn) (i : ℕ) (n : NameValue) → turns ≡ newer ++ (middle ++ at_quiet) → AreFrom (terms.quiet + 1) middle → Live i → WhyQuiet i n (middle ++ at_quiet)
+  quiet_since newer [] i n split behind live =
+      let near = (is.are.near i n live).quiet in
+      let clock = is.are.clock newer at_quiet i split live in
+      let by = (split_at terms.quiet turns).by in
+      inl (omega (arith, near, clock, by))
+  quiet_since newer (e ∷ middle) i n split behind live =
+      let part = split ∙ sym (append_assoc newer (e ∷ []) (middle ++ at_quiet)) in
+      let rest = quiet_since (newer ++ e ∷ []) middle i n part behind.1 live in
+      let late = behind.0 in
       ⊎_elim
-      (λ (same : (desk_at places (e ∷ older) i).calls ≡ (desk_at places older i).calls). earlier i n e older _ _ (ap (q i n) same) rest)
-      (λ (c : Called older e i). called_quiet newer older e i n split live rest c)
-      (changes newer older e i split live)
+      (λ (same : (desk_at places (e ∷ (middle ++ at_quiet)) i).calls ≡ (desk_at places (middle ++ at_quiet) i).calls). earlier i n e (middle ++ at_quiet) _ _ (ap (q i n) same) rest)
+      (λ (c : Called (middle ++ at_quiet) e i). called_quiet newer (middle ++ at_quiet) e i n split live (omega (arith, late)) (near_since (newer ++ e ∷ []) middle i n part behind.1 live) rest c)
+      (changes newer (middle ++ at_quiet) e i split live)
+
+  pub why_quiet : (newer part : List Turn) (i : ℕ) (n : NameValue) → turns ≡ newer ++ part → terms.quiet < time_of part → Live i → WhyQuiet i n part
+  why_quiet newer part i n split late live =
+      let p = since_quiet newer part split late in
+      subst (WhyQuiet i n) (sym p.split) (quiet_since newer p.middle i n (split ∙ ap (λ (t : List Turn). newer ++ t) p.split) p.behind live)
 
   -- ---- what comes of a call that makes it so
 

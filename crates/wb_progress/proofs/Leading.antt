@@ -10,11 +10,10 @@ use Rattle.wb_keeper.specs.Keeper.{KeeperCall, GiveUp}
 use Rattle.wb_keeper.specs.Ticks.{sent_by_tick}
 use Rattle.wb_progress.specs.Calls.{Brings, Fires, Requests}
 use Rattle.wb_progress.specs.InTime.{answering_by, repairing, known_from, IsGivenUp, TimerLeadsBut, TimerLeadsOrIsGivenUp}
-use Rattle.wb_progress.specs.Keepers.{AreWithin}
 use Rattle.wb_progress.specs.Repairs.{timers_at}
-use Rattle.wb_progress.specs.Turns.{longest, Terms, settled_by, Turn, Places, Accepts, desk_at, has, timers_there, time_of, AreInOrder, IsAnswerable, AllHoldBehind, IsOtherOrLacked, WasSent, KeepTimeBut}
+use Rattle.wb_progress.specs.Turns.{Terms, settled_by, Turn, Places, Accepts, desk_at, has, timers_there, time_of, AreInOrder, IsAnswerable, AllHoldBehind, IsOtherOrLacked, WasSent, KeepTimeBut}
 use Rattle.wb_progress.proofs.Answering.{sooner, request_is_answered_but}
-use Rattle.wb_progress.proofs.Calls.{ask_goes_on}
+use Rattle.wb_progress.proofs.Calls.{requests_go_on}
 use Rattle.wb_progress.proofs.Giving.{Spares, spares_held, Called, Copy, IsGiven, changes, came_or_given, copy_comes}
 use Rattle.wb_progress.proofs.OneCall.{ticks_ask}
 use Rattle.wb_progress.proofs.Parts.{before_end, order_of, joined, AreFrom, from_at, from_tail}
@@ -90,15 +89,13 @@ module _ {MayStop : List Turn → Turn → NameValue → Type 0} (places : Place
       pub leads_on : Leads ask
       leads_on = ⊎_elim
           (λ (same : (desk_at places (e ∷ older) i).calls ≡ (desk_at places older i).calls). inl (ap at_calls same ∙ stands))
-          (λ (c : Called places terms turns is older e i).
-          let within = subst (AreWithin terms.far (longest terms) (places.me i) (places.constants i)) c.calls (is.are.within newer (e ∷ older) i split live) in
-          ⊎_elim
+          (λ (c : Called places terms turns is older e i). ⊎_elim
           (λ (s : at_calls (c.call ∷ (desk_at places older i).calls) ≡ Some ask). inl (ap at_calls c.calls ∙ s))
           (λ (g : (Brings n c.call × (at_calls (c.call ∷ (desk_at places older i).calls) ≡ None)) ⊎ (Fires ask.due c.call ⊎ Requests (places.me i) n c.call)). inr (⊎_elim
           (λ (b : Brings n c.call × (at_calls (c.call ∷ (desk_at places older i).calls) ≡ None)). came c b.0 (ap at_calls c.calls ∙ b.1))
           (λ (k : Fires ask.due c.call ⊎ Requests (places.me i) n c.call). inr (⊎_elim (λ (f : Fires ask.due c.call). fired c f) (λ (r : Requests (places.me i) n c.call). heard c r) k))
           g))
-          (ask_goes_on terms.far (places.me i) (longest terms) (places.constants i) c.call (desk_at places older i).calls n within ask stands))
+          (requests_go_on (places.me i) (places.constants i) c.call (desk_at places older i).calls n ask stands))
           (changes places terms turns is newer older e i split live) where
             at_calls : List KeeperCall → Option AskTimer
             at_calls calls = (timers_at (places.me i) (places.constants i) calls n).ask

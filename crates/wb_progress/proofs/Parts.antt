@@ -3,6 +3,7 @@ use Rattle.std.proofs.Common.{◌≡◌, ℕ, ◌+◌, ◌<◌, ◌≤◌, Bool,
 use Rattle.std.specs.Prelude.{nat_le}
 use Rattle.wb_progress.specs.Turns.{Turn, time_of, AreInOrder, until}
 use Rattle.std.proofs.lemmas.Bool.{lt-leb, leb-false, leb-true}
+use Rattle.std.proofs.lemmas.List.{append_cancel_right}
 
 pub before_end : (newer later : List Turn) → AreInOrder (newer ++ later) → time_of later ≤ time_of (newer ++ later)
 before_end [] later order = omega arith
@@ -99,3 +100,27 @@ goes_on s newer older e order lt =
 
 pub joined : (newer front back : List Turn) (e : Turn) (turns older : List Turn) → turns ≡ newer ++ older → older ≡ front ++ e ∷ back → turns ≡ (newer ++ front) ++ e ∷ back
 joined newer front back e turns older split is = split ∙ ap (λ (t : List Turn). newer ++ t) is ∙ sym (append_assoc newer front (e ∷ back))
+
+-- a part that ends behind a time is turns behind it, over those up to it
+pub record IsSince (s : ℕ) (turns part : List Turn) : Type 0 where
+  pub middle : List Turn
+  pub split : part ≡ middle ++ until s turns
+  pub behind : AreFrom (s + 1) middle
+
+pub since : (s : ℕ) (turns newer part : List Turn) → AreInOrder turns → turns ≡ newer ++ part → s < time_of part → IsSince s turns part
+since s turns newer part order split lt = record {
+  middle = p.0;
+  split = p.1;
+  behind = from_tail (s + 1) newer p.0 (subst (AreFrom (s + 1)) (append_cancel_right r.newer (newer ++ p.0) base (sym r.split ∙ whole ∙ sym (append_assoc newer p.0 base))) r.behind);
+} where
+  base : List Turn
+  base = until s turns
+
+  r : IsSplitAt s turns
+  r = split_at s turns
+
+  p : (middle : List Turn) × (part ≡ middle ++ base)
+  p = let by = r.by in in_past newer part r.newer base (sym split ∙ r.split) (subst AreInOrder split order) (omega (arith, by, lt))
+
+  whole : turns ≡ newer ++ (p.0 ++ base)
+  whole = split ∙ ap (λ (t : List Turn). newer ++ t) p.1

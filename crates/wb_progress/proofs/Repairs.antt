@@ -79,7 +79,7 @@ asked_anew_is_soon me t calls history n word constants orderly lost none =
     ticks_ask me t (Miss now (n ∷ []) (word ∷ []) ∷ stopped) history (now + first_wait) n (ap (is_ask_due (now + first_wait)) set ∙ le-leb timer.due (now + first_wait) due) lost
 
 pub answers_are_soon : AnswersAreSoon
-answers_are_soon me t calls n constants orderly = from (timers_at me t calls n).answer (keepers_are_bounded me t calls constants orderly n).answer where
+answers_are_soon me t calls n constants orderly = from (timers_at me t calls n).answer (keepers_are_bounded me t calls constants orderly n).answers.answer where
   from : (o : Option AnswerTimer) → IfSome o (IsAnswerNear greatest_constants farthest (moment_at calls)) → IfSome o (λ answer. answer.due ≤ moment_at calls + answering_wait)
   from None near = tt
   from (Some a) near =
@@ -126,7 +126,7 @@ module _ (me : ℕ) (t : Tuning) (calls : List KeeperCall) (history : List Drawo
 
   is_quiet : (timers_at me t quiet d.name).quiet ≤ second
   is_quiet =
-      let le = (keepers_are_bounded me t cleared constants cleared_orderly d.name).quiet in
+      let le = (keepers_are_bounded me t cleared constants cleared_orderly d.name).answers.quiet in
       let e : (timers_at me t quiet d.name).quiet ≡ (timers_at me t cleared d.name).quiet = ap (λ (s : Timers). s.quiet) same in
       omega (arith, le, e)
 

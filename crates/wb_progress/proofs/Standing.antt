@@ -1,22 +1,22 @@
 -- What becomes of a timer that stands, and why a name is quiet.
-use Rattle.std.proofs.Common.{◌≡◌, ℕ, ◌+◌, ◌*◌, ◌≤◌, ◌<◌, Bool, true, false, cond, List, [], ◌∷◌, ◌++◌, Option, Some, None, refl, ap, ◌∙◌, sym, subst, arith, ◌⊎◌, inl, inr, ⊎_elim, append-nil}
+use Rattle.std.proofs.Common.{◌≡◌, ℕ, ◌+◌, ◌*◌, ◌≤◌, ◌<◌, Bool, true, false, cond, List, [], ◌∷◌, ◌++◌, Option, Some, None, refl, ap, ◌∙◌, sym, subst, arith, ◌⊎◌, inl, inr, ⊎_elim}
 use Rattle.std.specs.Prelude.{IfSome, is_none, nat_le, ◌&&◌}
 use Rattle.std.proofs.Math.Bool.{and-false}
-use Rattle.std.proofs.Math.Nat.{mul-le-mul_left}
+use Rattle.std.proofs.Math.Nat.{le_refl, mul-le-mul_left}
 use Rattle.wb_names.specs.Values.{NameValue}
 use Rattle.wb_names.specs.Orders.{same_name}
 use Rattle.wb_names.proofs.Orders.{same_name-here}
 use Rattle.wb_recovery.specs.Timing.{asked, new_answer, is_answer_due}
-use Rattle.wb_recovery.specs.Events.{Event, Notice, Asked, Got, Tick, Tune, constants_after, timers_of}
+use Rattle.wb_recovery.specs.Events.{Event, Notice, Asked, Got, Tick, Tune, constants_after, moment_of, timers_of}
 use Rattle.wb_recovery.specs.Laws.{arrives, sets_ask, backs_off, sets_answer, ends_answer, quiets}
 use Rattle.wb_recovery.specs.declared.tuning.Tuning.{Tuning}
 use Rattle.wb_recovery.specs.declared.timers.AskTimer.{AskTimer}
 use Rattle.wb_recovery.specs.declared.timers.AnswerTimer.{AnswerTimer}
 use Rattle.wb_recovery.specs.declared.timers.Timers.{Timers}
 use Rattle.wb_recovery.proofs.TimerLaws.{request_stays, answer_stays_set, quiet_stays_left}
-use Rattle.wb_progress.specs.Bounds.{AreSteady, IsAnswerNear}
+use Rattle.wb_progress.specs.Bounds.{AreAnswersNear, AreSteady, IsAnswerNear}
 use Rattle.wb_progress.specs.Standing.{Did, AnswersAreKept, RequestsAreKept, IsCause, QuietHasCause, RequestsAreTaken, IsRecent, RequestsLeadOn}
-use Rattle.wb_progress.proofs.TimerBounds.{timers_are_bounded}
+use Rattle.wb_progress.proofs.TimerBounds.{answers_are_bounded, answers_later}
 use Rattle.std.proofs.lemmas.Bool.{le-leb, leb-false}
 
 -- one more call
@@ -70,13 +70,25 @@ requests_are_kept t n (e ∷ newer) older ask is = ⊎_elim
 same_cause : (t : Tuning) (far : ℕ) (n : NameValue) (newer older : List Event) (a b : ℕ) → a ≡ b → Did (IsCause t far n a) newer older → Did (IsCause t far n b) newer older
 same_cause t far n newer older a b e h = subst (λ (q : ℕ). Did (IsCause t far n q) newer older) e h
 
+onward : (bound t : Tuning) (far : ℕ) (newer older : List Event) → AreSteady far bound t newer older → moment_of older ≤ moment_of (newer ++ older)
+onward bound t far [] older steady = le_refl (moment_of older)
+onward bound t far (e ∷ newer) older steady = let le = onward bound t far newer older steady.3 in let o = steady.0 in omega (arith, le, o)
+
 pub quiet_has_cause : QuietHasCause
-quiet_has_cause bound t far n [] older steady = inl refl
-quiet_has_cause bound t far n (e ∷ newer) older steady = from (quiets t n e (newer ++ older)) refl (quiet_has_cause bound t far n newer older steady.3) where
+quiet_has_cause bound t far n [] older steady near = inl refl
+quiet_has_cause bound t far n (e ∷ newer) older steady near = from (quiets t n e (newer ++ older)) refl (quiet_has_cause bound t far n newer older steady.3 near) where
+  moment : ℕ
+  moment = moment_of (e ∷ (newer ++ older))
+
+  near_then : AreAnswersNear bound far moment (timers_of t (e ∷ (newer ++ older)) n)
+  near_then =
+      answers_are_bounded bound t far moment (e ∷ newer) older steady (le_refl moment) n
+      (answers_later bound far (moment_of older) moment (timers_of t older n) (onward bound t far (e ∷ newer) older steady) near)
+
   from : (b : Bool) → quiets t n e (newer ++ older) ≡ b
       → ((timers_of t (newer ++ older) n).quiet ≡ (timers_of t older n).quiet) ⊎ Did (IsCause t far n (timers_of t (newer ++ older) n).quiet) newer older
       → ((timers_of t (e ∷ (newer ++ older)) n).quiet ≡ (timers_of t older n).quiet) ⊎ Did (IsCause t far n (timers_of t (e ∷ (newer ++ older)) n).quiet) (e ∷ newer) older
-  from true f rest = inr (newest (IsCause t far n (timers_of t (e ∷ (newer ++ older)) n).quiet) e newer older (record { quiets_it = f; until = (timers_are_bounded bound t far (e ∷ (newer ++ older)) steady n).quiet }))
+  from true f rest = inr (newest (IsCause t far n (timers_of t (e ∷ (newer ++ older)) n).quiet) e newer older (record { quiets_it = f; until = near_then.quiet }))
   from false f rest =
       let same = quiet_stays_left t e (newer ++ older) n f in
       ⊎_elim
@@ -100,12 +112,22 @@ is_quiet t now delay word s e = from s.answer refl (nat_le s.quiet now) refl whe
 waits : (now due c delay far : ℕ) → due ≤ now + c * delay → delay ≤ far → due ≤ now + c * far
 waits now due c delay far le near = let m = mul-le-mul_left c near in omega (arith, le, m)
 
+-- it finds the name quiet, or a near answer timer stands after it
+pub taken : (bound t : Tuning) (far moment now delay word : ℕ) (s next : Timers) → next ≡ asked t true now delay word s → AreAnswersNear bound far moment next
+    → (now < s.quiet) ⊎ ((answer : AnswerTimer) × (next.answer ≡ Some answer) × (answer.due ≤ moment + (bound.d1 + bound.d2) * far))
+taken bound t far moment now delay word s next same near = from next.answer refl near.answer where
+  from : (o : Option AnswerTimer) → next.answer ≡ o → IfSome o (IsAnswerNear bound far moment)
+      → (now < s.quiet) ⊎ ((answer : AnswerTimer) × (next.answer ≡ Some answer) × (answer.due ≤ moment + (bound.d1 + bound.d2) * far))
+  from (Some a) e near = inr (a, e, waits moment a.due (bound.d1 + bound.d2) a.delay far near.due near.delay)
+  from None e near = inl (is_quiet t now delay word s (sym (ap (λ (k : Timers). k.answer) same) ∙ e))
+
 pub requests_are_taken : RequestsAreTaken
-requests_are_taken bound t far n events now delay word steady = from (timers_of t (Asked n true now delay word ∷ events) n).answer refl (timers_are_bounded bound t far (Asked n true now delay word ∷ events) steady n).answer where
-  from : (o : Option AnswerTimer) → (timers_of t (Asked n true now delay word ∷ events) n).answer ≡ o → IfSome o (IsAnswerNear bound far now)
-      → (now < (timers_of t events n).quiet) ⊎ ((answer : AnswerTimer) × ((timers_of t (Asked n true now delay word ∷ events) n).answer ≡ Some answer) × (answer.due ≤ now + (bound.d1 + bound.d2) * far))
-  from (Some a) e near = inr (a, e, waits now a.due (bound.d1 + bound.d2) a.delay far near.due near.delay)
-  from None e near = inl (is_quiet (constants_after t events) now delay word (timers_of t events n) (sym (ap (λ (b : Bool). (cond b (asked (constants_after t events) true now delay word (timers_of t events n)) (timers_of t events n)).answer) (same_name-here n n refl)) ∙ e))
+requests_are_taken bound t far moment n newer older now delay word steady by near =
+    let s = timers_of t (newer ++ older) n in
+    let constants = constants_after t (newer ++ older) in
+    let request = Asked n true now delay word in
+    taken bound constants far moment now delay word s (timers_of t (request ∷ (newer ++ older)) n) (ap (λ (b : Bool). cond b (asked constants true now delay word s) s) (same_name-here n n refl))
+    (answers_are_bounded bound t far moment (request ∷ newer) older steady by n near)
 
 -- ---- and what it leads to
 
@@ -126,31 +148,36 @@ recent t far n now quiet newer older lt h = record {
 abbrev EndsAnswer : Tuning → NameValue → Event → List Event → Type 0
 EndsAnswer t n e older = ends_answer t n e older ≡ true
 
-no_moment : (now q : ℕ) → now < q → q ≡ 0 → ⊥
-no_moment now q lt e = omega (arith, lt, e)
-
-quiet_recent : (bound t : Tuning) (far : ℕ) (n : NameValue) (now : ℕ) (events : List Event) → AreSteady far bound t events → now < (timers_of t events n).quiet → Did (IsRecent t far n now) events []
-quiet_recent bound t far n now events steady lt =
-    let same : events ++ [] ≡ events = append-nil events in
-    let q : ℕ = (timers_of t (events ++ []) n).quiet in
-    let less : now < q = subst (λ (es : List Event). now < (timers_of t es n).quiet) (sym same) lt in
+quiet_recent : (bound t : Tuning) (far : ℕ) (n : NameValue) (now : ℕ) (newer older : List Event) → AreSteady far bound t newer older → AreAnswersNear bound far (moment_of older) (timers_of t older n) → now < (timers_of t (newer ++ older) n).quiet
+    → (now < (timers_of t older n).quiet) ⊎ Did (IsRecent t far n now) newer older
+quiet_recent bound t far n now newer older steady near lt =
+    let q = (timers_of t (newer ++ older) n).quiet in
     ⊎_elim
-    (λ (e : q ≡ 0). absurd (no_moment now q less e))
-    (λ (h : Did (IsCause t far n q) events []). recent t far n now q events [] less h)
-    (quiet_has_cause bound t far n events [] (subst (AreSteady far bound t) (sym same) steady))
+    (λ (e : q ≡ (timers_of t older n).quiet). inl (subst (λ (k : ℕ). now < k) e lt))
+    (λ (h : Did (IsCause t far n q) newer older). inr (recent t far n now q newer older lt h))
+    (quiet_has_cause bound t far n newer older steady near)
 
 pub requests_lead_on : RequestsLeadOn
-requests_lead_on bound t far n after before events now delay word moment words steady late = ⊎_elim
-    (λ (q : now < (timers_of t events n).quiet). inl (quiet_recent bound t far n now events steady.3 q))
-    (λ (a : (answer : AnswerTimer) × ((timers_of t (Asked n true now delay word ∷ events) n).answer ≡ Some answer) × (answer.due ≤ now + (bound.d1 + bound.d2) * far)).
-    inr (further (EndsAnswer t n) after (Tick moment words ∷ before) (Asked n true now delay word ∷ events) (ends a.0 a.1 (within a.2))))
-    (requests_are_taken bound t far n events now delay word steady) where
+requests_lead_on bound t far n after before newer older now delay word moment words steady near late = ⊎_elim
+    (λ (q : now < (timers_of t events n).quiet). ⊎_elim
+    (λ (stays : now < (timers_of t older n).quiet). inl stays)
+    (λ (h : Did (IsRecent t far n now) newer older). inr (inl h))
+    (quiet_recent bound t far n now newer older steady.3 near q))
+    (λ (a : (answer : AnswerTimer) × ((timers_of t asked_for n).answer ≡ Some answer) × (answer.due ≤ now + (bound.d1 + bound.d2) * far)).
+    inr (inr (further (EndsAnswer t n) after (Tick moment words ∷ before) asked_for (ends a.0 a.1 (within a.2)))))
+    (requests_are_taken bound t far now n newer older now delay word steady (le_refl now) (answers_later bound far (moment_of older) now (timers_of t older n) (onward bound t far (Asked n true now delay word ∷ newer) older steady) near)) where
+      events : List Event
+      events = newer ++ older
+
+      asked_for : List Event
+      asked_for = Asked n true now delay word ∷ events
+
       within : {due : ℕ} → due ≤ now + (bound.d1 + bound.d2) * far → due ≤ moment
       within le = omega (arith, le, late)
 
-      ends : (answer : AnswerTimer) → (timers_of t (Asked n true now delay word ∷ events) n).answer ≡ Some answer → answer.due ≤ moment → Did (EndsAnswer t n) (Tick moment words ∷ before) (Asked n true now delay word ∷ events)
+      ends : (answer : AnswerTimer) → (timers_of t asked_for n).answer ≡ Some answer → answer.due ≤ moment → Did (EndsAnswer t n) (Tick moment words ∷ before) asked_for
       ends answer e due = ⊎_elim
-          (λ (h : (timers_of t (before ++ Asked n true now delay word ∷ events) n).answer ≡ Some answer).
-          newest (EndsAnswer t n) (Tick moment words) before (Asked n true now delay word ∷ events) (ap (is_answer_due moment) h ∙ le-leb answer.due moment due))
-          (λ (h : Did (EndsAnswer t n) before (Asked n true now delay word ∷ events)). more (EndsAnswer t n) (Tick moment words) before (Asked n true now delay word ∷ events) h)
-          (answers_are_kept t n before (Asked n true now delay word ∷ events) answer e)
+          (λ (h : (timers_of t (before ++ asked_for) n).answer ≡ Some answer).
+          newest (EndsAnswer t n) (Tick moment words) before asked_for (ap (is_answer_due moment) h ∙ le-leb answer.due moment due))
+          (λ (h : Did (EndsAnswer t n) before asked_for). more (EndsAnswer t n) (Tick moment words) before asked_for h)
+          (answers_are_kept t n before asked_for answer e)

@@ -1,20 +1,18 @@
 -- A request timer for what can be answered is of the lowest level, or it was backed off by a request that is answered to all.
 use Rattle.std.proofs.Common.{◌≡◌, ℕ, ◌+◌, ◌<◌, ◌≤◌, List, [], ◌∷◌, ◌++◌, Option, Some, None, refl, sym, ap, ◌∙◌, subst, arith, ◌⊎◌, inl, inr, ⊎_elim, append_assoc}
 use Rattle.std.specs.Prelude.{Contains}
-use Rattle.std.proofs.lemmas.List.{append_cancel_right}
 use Rattle.std.proofs.lemmas.Option.{none-some}
 use Rattle.wb_names.specs.Values.{NameValue}
 use Rattle.wb_recovery.specs.declared.timers.AskTimer.{AskTimer}
 use Rattle.wb_keeper.specs.Keeper.{KeeperCall}
 use Rattle.wb_progress.specs.InTime.{answering_by, known_from}
-use Rattle.wb_progress.specs.Keepers.{AreWithin}
 use Rattle.wb_progress.specs.Repairs.{timers_at}
 use Rattle.wb_progress.specs.Turns.{longest, Terms, Turn, Places, desk_at, timers_there, time_of, AreInOrder, until, IsAnswerable, AllHoldBehind, KeepTimeBut}
 use Rattle.wb_progress.proofs.Answering.{sooner}
-use Rattle.wb_progress.proofs.Calls.{ask_begins}
+use Rattle.wb_progress.proofs.Calls.{requests_begin}
 use Rattle.wb_progress.proofs.Giving.{Spares, Called, changes}
 use Rattle.wb_progress.proofs.Leading.{Gives, leads_on, not_over}
-use Rattle.wb_progress.proofs.Parts.{AreFrom, IsSplitAt, in_past, order_of, split_at, from_tail}
+use Rattle.wb_progress.proofs.Parts.{AreFrom, IsSince, order_of, since, split_at}
 
 module _ {MayStop : List Turn → Turn → NameValue → Type 0} (places : Places) (terms : Terms) (turns : List Turn) (is : KeepTimeBut MayStop places terms turns) (i : ℕ) (live : Contains terms.live i) (n : NameValue) (a : IsAnswerable places terms turns n) (spares : Spares places MayStop n) (limit : ℕ) where
   abbrev asks : List Turn → Option AskTimer
@@ -37,9 +35,7 @@ module _ {MayStop : List Turn → Turn → NameValue → Type 0} (places : Place
     level_of : (ask : AskTimer) → asks (e ∷ older) ≡ Some ask → ask.level ≡ 0
     level_of ask stands = ⊎_elim
         (λ (same : (desk_at places (e ∷ older) i).calls ≡ (desk_at places older i).calls). absurd (none-some ask (sym (ap at_calls same ∙ none) ∙ stands)))
-        (λ (c : Called places terms turns is older e i).
-        let within = subst (AreWithin terms.far (longest terms) (places.me i) (places.constants i)) c.calls (is.are.within newer (e ∷ older) i split live) in
-        (ask_begins terms.far (places.me i) (longest terms) (places.constants i) c.call (desk_at places older i).calls n within ask none (sym (ap at_calls c.calls) ∙ stands)).2)
+        (λ (c : Called places terms turns is older e i). (requests_begin terms.far (places.me i) (longest terms) (places.constants i) c.call (desk_at places older i).calls n ask none (sym (ap at_calls c.calls) ∙ stands)).2)
         (changes places terms turns is newer older e i split live)
 
     from : (o : Option AskTimer) → asks (e ∷ older) ≡ o → IsYoung (e ∷ older)
@@ -74,7 +70,7 @@ module _ {MayStop : List Turn → Turn → NameValue → Type 0} (places : Place
 -- it is so behind the waits of the timers that stood when requests began to be answered
 pub timers_are_young : (MayStop : List Turn → Turn → NameValue → Type 0) (places : Places) (terms : Terms) (turns newer part : List Turn) (i wait : ℕ) (n : NameValue) (ask : AskTimer) → KeepTimeBut MayStop places terms turns → Spares places MayStop n → ((other : AskTimer) → (timers_there places (until (known_from terms) turns) i n).ask ≡ Some other → other.due + terms.lag i ≤ known_from terms + wait)
     → turns ≡ newer ++ part → Contains terms.live i → known_from terms + wait + terms.late < time_of part → IsAnswerable places terms turns n → (timers_there places part i n).ask ≡ Some ask → (ask.level ≡ 0) ⊎ AllHoldBehind places terms turns (time_of part + answering_by terms) n
-timers_are_young MayStop places terms turns newer part i wait n ask is spares waits split live lt a stands = ends (subst Young (sym p.1) (walk places terms turns is i live n a spares limit newer p.0 base whole late (begin (timers_there places base i n).ask refl))) where
+timers_are_young MayStop places terms turns newer part i wait n ask is spares waits split live lt a stands = ends (subst Young (sym p.split) (walk places terms turns is i live n a spares limit newer p.middle base whole p.behind (begin (timers_there places base i n).ask refl))) where
   s : ℕ
   s = known_from terms
 
@@ -87,21 +83,15 @@ timers_are_young MayStop places terms turns newer part i wait n ask is spares wa
   Young : List Turn → Type 0
   Young back = IsYoung places terms turns is i live n a spares limit back
 
-  r : IsSplitAt s turns
-  r = split_at s turns
+  p : IsSince s turns part
+  p = since s turns newer part is.order split (omega (arith, lt))
 
-  p : (middle : List Turn) × (part ≡ middle ++ base)
-  p = let by = r.by in in_past newer part r.newer base (sym split ∙ r.split) (subst AreInOrder split is.order) (omega (arith, by, lt))
-
-  whole : turns ≡ newer ++ (p.0 ++ base)
-  whole = split ∙ ap (λ (t : List Turn). newer ++ t) p.1
-
-  late : AreFrom (s + 1) p.0
-  late = from_tail (s + 1) newer p.0 (subst (AreFrom (s + 1)) (append_cancel_right r.newer (newer ++ p.0) base (sym r.split ∙ whole ∙ sym (append_assoc newer p.0 base))) r.behind)
+  whole : turns ≡ newer ++ (p.middle ++ base)
+  whole = split ∙ ap (λ (t : List Turn). newer ++ t) p.split
 
   begin : (o : Option AskTimer) → (timers_there places base i n).ask ≡ o → Young base
   begin None e = Absent e
-  begin (Some ask) e = let due = waits ask e in let by = r.by in Stood ask e (omega (arith, due)) (omega (arith, by))
+  begin (Some ask) e = let due = waits ask e in let by = (split_at s turns).by in Stood ask e (omega (arith, due)) (omega (arith, by))
 
   ends : Young part → (ask.level ≡ 0) ⊎ AllHoldBehind places terms turns (time_of part + answering_by terms) n
   ends (Absent none) = absurd (none-some ask (sym none ∙ stands))

@@ -1,5 +1,5 @@
 -- Keepers at places, in real time: what a network and drivers keep to, so that what is lost comes by a stated time.
-use Rattle.std.specs.Prelude.{◌≡◌, ◌≢◌, ◌⊎◌, ℕ, ◌+◌, ◌*◌, ◌<◌, ◌≤◌, Bool, true, false, List, [], ◌∷◌, ◌++◌, Contains, max, nat_eq, nat_le, IfSome, None, if◌then◌else◌}
+use Rattle.std.specs.Prelude.{◌≡◌, ◌≢◌, ◌⊎◌, ℕ, ◌+◌, ◌*◌, ◌-◌, ◌<◌, ◌≤◌, Bool, true, false, List, [], ◌∷◌, ◌++◌, Contains, max, nat_eq, nat_le, IfSome, None, if◌then◌else◌}
 use Rattle.wb_names.specs.Values.{NameValue, DrawopValue}
 use Rattle.wb_names.specs.History.{IsHistory}
 use Rattle.wb_codec.specs.declared.datagram.Datagram.{Datagram}
@@ -10,7 +10,8 @@ use Rattle.wb_recovery.specs.declared.timers.AnswerTimer.{AnswerTimer}
 use Rattle.wb_recovery.specs.declared.timers.Timers.{Timers}
 use Rattle.wb_keeper.specs.Keeper.{KeeperCall, Hear, Arrive, GoOn, GiveUp, moment_at, holds}
 use Rattle.wb_keeper.specs.Ticks.{sent_by_tick, stopped_after}
-use Rattle.wb_progress.specs.Keepers.{AreWithin}
+use Rattle.wb_progress.specs.Bounds.{AreAnswersNear}
+use Rattle.wb_progress.specs.Keepers.{IsWithin}
 use Rattle.wb_progress.specs.Repairs.{timers_at}
 
 -- ---- the terms
@@ -180,9 +181,11 @@ pub record AreNotOverdue (s : Timers) (now late : ℕ) : Type 0 where
 pub record AreTurns (places : Places) (terms : Terms) (turns : List Turn) : Type 0 where
   pub apart : (i j : ℕ) → Contains terms.live i → Contains terms.live j → places.me i ≡ places.me j → i ≡ j
   pub turn : (newer older : List Turn) (e : Turn) → turns ≡ newer ++ e ∷ older → Contains terms.live e.place → IsTurn places terms older e
-  pub within : (newer older : List Turn) (i : ℕ) → turns ≡ newer ++ older → Contains terms.live i → AreWithin terms.far (longest terms) (places.me i) (places.constants i) (desk_at places older i).calls
-  -- at first no name is quiet, and no clock is ahead of `quiet`, nor later of the time
-  pub first : (i : ℕ) (n : NameValue) → Contains terms.live i → (timers_there places [] i n).quiet ≡ 0
+  -- from `quiet` on no call goes by a delay above `far`; the answers that stand at `quiet` end as soon as if none had before
+  pub within : (newer older : List Turn) (e : Turn) (call : KeeperCall) → turns ≡ newer ++ e ∷ older → Contains terms.live e.place → terms.quiet < e.time → Accepts places older e call
+      → IsWithin terms.far (longest terms) (places.me e.place) (places.constants e.place) call (desk_at places older e.place).calls
+  pub near : (i : ℕ) (n : NameValue) → Contains terms.live i → AreAnswersNear (longest terms) terms.far (terms.quiet - terms.lag i) (timers_there places (until terms.quiet turns) i n)
+  -- at first no clock is ahead of `quiet`, nor later of the time
   pub clock : (newer older : List Turn) (i : ℕ) → turns ≡ newer ++ older → Contains terms.live i → moment_at (desk_at places older i).calls + terms.lag i ≤ max (time_of older) terms.quiet
   pub history : (newer older : List Turn) (i : ℕ) → turns ≡ newer ++ older → Contains terms.live i → IsHistory (desk_at places older i).held
   pub lacking : (newer older : List Turn) (i : ℕ) (n : NameValue) → turns ≡ newer ++ older → Contains terms.live i → has places older i n ≡ true → (timers_there places older i n).ask ≡ None

@@ -1,21 +1,25 @@
 //! Laws of progress. Each function does nothing: its contract is a law, for proofs to cite.
 
-ghost use Rattle.wb_progress.specs.Bounds.{TimersAreBounded};
+ghost use Rattle.wb_progress.specs.Bounds.{AnswersAreBounded, TimersAreBounded};
 ghost use Rattle.wb_progress.specs.Calls.{AnswersGoOn, QuietBegins, RequestsAreHeard, RequestsBegin, RequestsGoOn};
 ghost use Rattle.wb_progress.specs.InTime.{RequestIsAnsweredBut, TimerLeadsBut, TimerLeadsOrIsGivenUp};
 ghost use Rattle.wb_progress.specs.Standing.{AnswersAreKept, QuietHasCause, RequestsAreKept, RequestsAreTaken, RequestsLeadOn};
-ghost use Rattle.wb_progress.specs.Keepers.{DelaysFit, KeepersAreBounded};
+ghost use Rattle.wb_progress.specs.Keepers.{AnswersStayNear, DelaysFit, KeepersAreBounded};
 ghost use Rattle.wb_progress.specs.Repairs.{AnswersAreSoon, AskedAnewIsSoon, AskerAsks, GivenUpIsIdle, HolderAnswers, MissesStand, RequestsSet, TicksAnswer, TicksAsk, TicksClear, TicksEnd, TicksLeave};
 
-/// No timer stands further ahead than the delays of the calls allow, and none is quiet for longer.
+/// No timer stands further ahead than the delays of the calls allow, and none is quiet for longer, if
+/// none did at first; so it is of answers alone.
 pub fn timers_are_bounded()
-    ensures { TimersAreBounded }
+    ensures timers { TimersAreBounded }
+    ensures answers { AnswersAreBounded }
 {}
 
-/// The same of a keeper, whose delays are below 2^24 microseconds.
+/// The same of a keeper, whose delays are below 2^24 microseconds; and of one call of a keeper, whose
+/// answers were near before it.
 pub fn keepers_are_bounded()
     ensures delays { DelaysFit }
     ensures timers { KeepersAreBounded }
+    ensures stays { AnswersStayNear }
 {}
 
 /// What one tick, one request and one miss do to the timers of a name.

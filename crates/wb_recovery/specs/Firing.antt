@@ -1,4 +1,4 @@
--- What firing makes of the timers of a name.
+-- The timers of a name after one of them fired.
 use Rattle.std.specs.Prelude.{ℕ, List}
 use Rattle.wb_names.specs.Values.{NameValue}
 use Rattle.wb_recovery.specs.Timing.{fired_ask, fired_answer, quiet_after}
@@ -6,10 +6,10 @@ use Rattle.wb_recovery.specs.Events.{word_for}
 use Rattle.wb_recovery.specs.declared.tuning.Tuning.{Tuning}
 use Rattle.wb_recovery.specs.declared.timers.Timers.{Timers}
 
--- the timers of a name once its request has fired, where these names fire one
+-- after its request timer fired; names whose requests fire take these words in their order
 abbrev pub with_ask_fired : Tuning → ℕ → List ℕ → List NameValue → (NameValue → Timers) → NameValue → Timers
 with_ask_fired t now words firing timers n = record (timers n) { ask = fired_ask t now (word_for words firing n) (timers n).ask }
 
--- the timers of a name once its answer has fired
+-- after its answer timer fired
 abbrev pub with_answer_fired : ℕ → (NameValue → Timers) → NameValue → Timers
 with_answer_fired now timers n = record (timers n) { answer = fired_answer now (timers n).answer; quiet = quiet_after now (timers n).quiet (timers n).answer }

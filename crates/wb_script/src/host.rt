@@ -158,7 +158,8 @@ impl<'a, T, G> Host<'a, T, G> {
 }
 
 impl<T: Threads + Wait + Sync, G: Gate + Sync> Host<'_, T, G> {
-    /// Takes a line, which was counted, and the lines that join it.
+    /// Takes a line, which was counted, and the lines that join it. After `Stop::Memory` nothing is
+    /// promised of the host: give it up.
     pub fn take<R: Source, W: Sink>(
         &mut self,
         alloc: Global,
