@@ -74,6 +74,7 @@ class Guest:
             record.close()
             raise
         self.member.judge(Judging(self.member))
+        self.member.keeper = keeper
         self.member.kept = keeper.kept
         self.member.board.sync_kept = keeper.kept.sync
         self.member.streams = keeper.streams

@@ -64,6 +64,7 @@ class Member:
         self.is_ready = False
         self.may_clear = True  # whether its windows offer to clear pages
         self.others_may: Optional[bool] = None  # of who keeps the board: whether those of others do
+        self.keeper: Optional[Member] = None  # of one of a browser: the one that keeps the board
         self.is_ended = False
         self.stage = Stage(program, is_proved=True)
         self.synced_at = time.monotonic()

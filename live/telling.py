@@ -127,6 +127,7 @@ class Telling:
             "teach": options.teach, "worsen": options.worse(), "cells": member.board.cells, "ready": member.is_ready,
             "twin": member.judging.has_twin, "broken": member.board.is_broken, "proof": member.stage.told(),
             "clears": member.may_clear, **({} if member.others_may is None else {"othersClear": member.others_may}),
+            **({} if member.keeper is None else {"keeper": member.keeper.me}),
         })
 
     # ---- the page

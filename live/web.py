@@ -118,7 +118,7 @@ class Web(ThreadingHTTPServer):
         self.guests = guests
         self.following = Following(options, member.telling.is_nearly_full)
         self.streams = threading.Semaphore(MOST_STREAMS)
-        self.files = page_files(self.token)
+        self.files = page_files(self.token, self.urls[-1])
 
     def process_request(self, request: Any, client_address: Any) -> None:
         """Each connection has a thread, while there are not too many."""
@@ -211,7 +211,7 @@ class Handler(BaseHTTPRequestHandler):
     def refuse(self, fault: Fault) -> None:
         """Tells why something is refused: to who looks, as a page."""
         if self.command == "GET" and "text/html" in self.headers.get("Accept", ""):
-            self.send_bytes(HTML, refusal(fault.status, str(fault)), status=fault.status)
+            self.send_bytes(HTML, refusal(fault.status, str(fault), self.headers.get("Accept-Language", "")), status=fault.status)
         else:
             self.send_json(fault.status, {"ok": False, "fault": str(fault)})
 

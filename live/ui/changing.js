@@ -1,11 +1,16 @@
 /** What is selected is changed: its look, its place by keys, and where it lies among the others; it is copied and deleted. A bar over it offers that. */
 import { spell } from './cells.js';
 import { $, say, tell } from './dom.js';
+import { colourFor } from './eraser.js';
+import { byPainting } from './inkitems.js';
+import { boxOf } from './inkpaint.js';
 import { carriedBy } from './inktools.js';
 import { restyled } from './inkwriting.js';
+import { wording } from './language.js';
 import { frameAbout } from './resizing.js';
 
 /** @typedef {import('./types.js').Shape} Shape */
+/** @typedef {import('./inkitems.js').Item} Item */
 /** @typedef {import('./style.js').Look} Look */
 
 /** Milliseconds after which a nudge is drawn: until then more of them are one; and the points of the screen that it is, and with Shift. */
@@ -13,6 +18,9 @@ const RESTS = 600, NUDGE = 1, FAR = 10;
 
 /** Points of the screen from what is selected to its copy, and to the bar. */
 const BESIDE = 20, ABOVE = 44;
+
+/** So many drawings are drawn anew at most, for another to lie behind them. */
+const MOST_ANEW = 200;
 
 export class Changing {
   /** @param {import('./whiteboard.js').Whiteboard} board */
@@ -22,7 +30,7 @@ export class Changing {
     this.by = { x: 0, y: 0 };
     this.timer = 0;
     /** @type {Record<string, () => void>} */
-    const acts = { 'chosen-delete': () => board.hand.deleteSelected(), 'chosen-twice': () => this.duplicate(), 'chosen-copy': () => this.copy(), 'chosen-front': () => this.toFront() };
+    const acts = { 'chosen-delete': () => board.hand.deleteSelected(), 'chosen-twice': () => this.duplicate(), 'chosen-copy': () => this.copy(), 'chosen-front': () => this.toFront(), 'chosen-back': () => this.toBack() };
     for (const [id, act] of Object.entries(acts)) $(id).addEventListener('click', () => { act(); board.focusSheet(); });
     board.view.onMove(() => this.show());
   }
@@ -55,7 +63,7 @@ export class Changing {
   change(change) {
     const { hand } = this.board, pieces = hand.chosen.pieces().map((piece) => ({ piece, shapes: hand.chosen.shapesOf(piece) }));
     const changed = pieces.map(({ piece, shapes }) => ({ piece, shapes, anew: shapes.map(change) })).filter(({ shapes, anew }) => anew.some((shape, i) => spell(shape) !== spell(shapes[i])));
-    if (!changed.length) return tell('Nothing that is selected can be changed so.');
+    if (!changed.length) return tell(wording('notChanged'));
     const stays = pieces.filter(({ piece }) => !changed.some((each) => each.piece === piece)).flatMap(({ piece }) => piece.item), rest = hand.chosen.rest(changed.map(({ piece }) => piece));
     const done = hand.replace(changed.flatMap(({ piece }) => piece.item.drawings), changed.flatMap(({ anew }) => anew), rest);
     return done.then(() => { stays.forEach((item) => hand.chosen.add(item)); hand.chose(); });
@@ -103,13 +111,27 @@ export class Changing {
   toFront() {
     const { hand } = this.board, shapes = hand.chosen.shapes();
     if (shapes.length) hand.replace(hand.chosen.drawings(), shapes, hand.chosen.rest());
-    say('to the front');
+    say(wording('toFront'));
+  }
+
+  /** Draws anew what lies under what is selected, and what lies over that, so that it all lies over it: painting goes by time, and nothing is drawn in the past. */
+  toBack() {
+    const { hand, ink, leafing } = this.board, chosen = new Set(hand.chosen.pieces().map(({ item }) => item)), /** @type {Set<Item>} */ anew = new Set();
+    /** @type {(item: Item, isMeant: (other: Item) => boolean) => void} */
+    const take = (item, isMeant) => [...ink.itemsIn(boxOf(item))].filter((other) => !chosen.has(other) && isMeant(other)).forEach((other) => anew.add(other));
+    for (const item of chosen) take(item, (other) => byPainting(other, item) < 0);
+    // a set is gone through to its end, though it grows
+    for (const item of anew) take(item, (other) => byPainting(other, item) > 0);
+    const drawings = [...anew].sort(byPainting).flatMap((item) => item.drawings.map((drawing) => leafing.copied(drawing, colourFor(item, hand))));
+    if (drawings.length > MOST_ANEW) return tell(wording('tooManyAnew', { most: MOST_ANEW }));
+    if (drawings.length) hand.change(drawings, [...anew].flatMap((item) => item.drawings), { isAgain: true });
+    return say(wording('toBack'));
   }
 
   /** Copies what is selected, as a key does. */
   copy() {
     const words = this.board.hand.chosen.shapes().map(spell).join('\n');
-    navigator.clipboard?.writeText(`${words}\n`).then(() => say('copied'), () => tell('The browser lets only keys copy: Ctrl+C.'));
-    if (!navigator.clipboard) tell('The browser lets only keys copy: Ctrl+C.');
+    navigator.clipboard?.writeText(`${words}\n`).then(() => say(wording('copied')), () => tell(wording('copyByKeys')));
+    if (!navigator.clipboard) tell(wording('copyByKeys'));
   }
 }

@@ -1,5 +1,6 @@
 /** The chat, and the form for the title of a page. */
 import { $, make } from './dom.js';
+import { wording } from './language.js';
 import { badge } from './members.js';
 import { MOST_TITLE, initialsOf } from './notes.js';
 
@@ -23,7 +24,7 @@ function askText(label, was, most) {
 /** @param {import('./whiteboard.js').Whiteboard} board */
 export function showChat({ session, notes, painter }) {
   $('entitle').addEventListener('click', async () => {
-    const { page } = session.board, title = await askText('The title of this page', session.titles.get(page) ?? '', MOST_TITLE);
+    const { page } = session.board, title = await askText(wording('titleOfPage'), session.titles.get(page) ?? '', MOST_TITLE);
     if (title !== null) notes.entitle(page, title);
   });
   $('chat').addEventListener('submit', (/** @type {Event} */ event) => {

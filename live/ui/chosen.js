@@ -1,7 +1,7 @@
 /** What of the ink is selected: whole items, and of written ones some strokes, from lift to lift. */
 import { nameOf } from './cells.js';
 import { colourFor, restOf } from './eraser.js';
-import { isStroke } from './ink.js';
+import { isStroke } from './inkkinds.js';
 import { boxAbout, boxOf } from './inkpaint.js';
 import { placed, writeStroke } from './inkwriting.js';
 

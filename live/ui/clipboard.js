@@ -3,6 +3,7 @@ import { SIDE, spell } from './cells.js';
 import { say, tell } from './dom.js';
 import { CELL_HIGH, CELL_WIDE } from './inksigns.js';
 import { placed, writeWords } from './inkwriting.js';
+import { wording } from './language.js';
 import { MOST_AT_ONCE, plainOf, writing } from './shapes.js';
 
 /** @typedef {import('./types.js').Shape} Shape */
@@ -43,9 +44,9 @@ export function shapesOf(text, at, look) {
  * @param {Hand} hand @param {string} text @param {{ x: number, y: number }} at */
 export function insert(hand, text, at) {
   const { painter, style } = hand.parts, { shapes, lost } = shapesOf(text, at, painter.isInk ? style.look : undefined);
-  if (shapes.length > MOST_AT_ONCE) return tell(`Not drawn: ${shapes.length} drawings at once are too many, ${MOST_AT_ONCE} are the most.`);
-  if (!shapes.length) return tell('There is no text to draw.');
-  if (lost.length) tell(`Drawn without ${lost.slice(0, 8).join(' ')}: a text has letters, digits and signs of ASCII only.`);
+  if (shapes.length > MOST_AT_ONCE) return tell(wording('tooMany', { most: MOST_AT_ONCE }));
+  if (!shapes.length) return tell(wording('noText'));
+  if (lost.length) tell(wording('drawnWithout', { letters: lost.slice(0, 8).join(' ') }));
   return hand.put(shapes, at);
 }
 
@@ -59,7 +60,7 @@ export function listenToClipboard(hand, place) {
     if (!isOurs(event) || !chosen.length) return false;
     event.preventDefault();
     event.clipboardData?.setData('text/plain', `${chosen.map(spell).join('\n')}\n`);
-    say(`${chosen.length} copied`);
+    say(wording('manyCopied', { n: chosen.length }));
     return true;
   };
   document.addEventListener('copy', copy);
@@ -69,6 +70,6 @@ export function listenToClipboard(hand, place) {
     if (!isOurs(event)) return;
     event.preventDefault();
     if (text.trim()) insert(hand, text, place());
-    else if (kinds.includes('Files')) tell('A page has no pictures: lines, frames and texts only.');
+    else if (kinds.includes('Files')) tell(wording('noPictures'));
   });
 }

@@ -1,4 +1,4 @@
-/** A colour for each member, by its number alone. All are as light as one another, so that each can be read on the page's grounds. */
+/** Colours of ink, and one for each member. Those by numbers are as light as one another, so that each can be read on the page's grounds. */
 
 /** Lightness and strength of the colours, by day and by night. */
 const BY_DAY = { light: 0.46, strength: 0.15 }, BY_NIGHT = { light: 0.82, strength: 0.11 };
@@ -58,8 +58,18 @@ export const ON_WHITE = { paper: '#ffffff', ink: DAY[0], accent: DAY[6] };
 /** The same of the highlighter, of notes, and of what is tinted. */
 export const BRIGHT = ['#9aa4b5', '#ff6b62', '#ff9f43', '#ffd60a', '#4cd07d', '#35d0cc', '#5b9dff', '#a67bff', '#b6bcc8'];
 
-/** What they are called; the tenth is the colour of the member that drew. */
-export const COLOURS = ['black', 'red', 'orange', 'yellow', 'green', 'teal', 'blue', 'violet', 'grey', 'my own colour'];
+/** What they are called in the table of texts; the tenth is the colour of the member that drew.
+ * @type {import('./language.js').Key[]} */
+export const COLOURS = ['black', 'red', 'orange', 'yellow', 'green', 'teal', 'blue', 'violet', 'grey', 'ownColour'];
 
-/** The order in which they are offered, and in which members get one. */
-export const OFFERED = [0, 6, 1, 4, 2, 3, 5, 7, 8], FOR_MEMBERS = [6, 1, 4, 2, 7, 5, 3, 8];
+/** The order in which they are offered, and in which members get one: of the first four each differs most from the others, also for the colour-blind. */
+export const OFFERED = [0, 6, 1, 4, 2, 3, 5, 7, 8], FOR_MEMBERS = [7, 3, 5, 1, 2, 4, 6, 8];
+
+/** The colours of members who have chosen none: of those that none of the others here has chosen the first ones, by their numbers. Whoever finds none
+ * left has a colour by its number alone.
+ * @type {(members: number[], chosen: Map<number, number>) => Map<number, number>} */
+export function coloursFor(members, chosen) {
+  const taken = new Set(members.map((member) => chosen.get(member))), free = FOR_MEMBERS.filter((colour) => !taken.has(colour));
+  const without = members.filter((member) => !chosen.has(member)).sort((a, b) => a - b);
+  return new Map(without.slice(0, free.length).map((member, i) => [member, free[i]]));
+}

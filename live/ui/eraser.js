@@ -1,9 +1,9 @@
 /** The eraser takes strokes from lift to lift. Of an item that keeps some, these are drawn anew, and then the item is deleted. */
 import { DAY, NIGHT } from './colours.js';
-import { isStroke } from './ink.js';
 import { along, bend, off } from './inkcurves.js';
 import { partsAt } from './inkfind.js';
-import { BROAD, boxAbout } from './inkpaint.js';
+import { broadOf, isStroke } from './inkkinds.js';
+import { boxAbout } from './inkpaint.js';
 import { CELL_WIDE, OWN, WIDTHS } from './inksigns.js';
 import { placed, writeStroke } from './inkwriting.js';
 
@@ -61,7 +61,7 @@ export function restOf(item, parts, hand) {
  * @type {(item: Item, rubbed: Rub[], hand: Hand) => Shape[]} */
 export function cutOf(item, rubbed, hand) {
   if (!isStroke(item.kind)) return [];
-  const wide = (WIDTHS[item.width] * (item.kind === 'h' ? BROAD : 1)) / 2, isGone = (/** @type {Point} */ at) => rubbed.some(({ from, to, near }) => off(at, from, to) < near + wide);
+  const wide = (WIDTHS[item.width] * broadOf(item)) / 2, isGone = (/** @type {Point} */ at) => rubbed.some(({ from, to, near }) => off(at, from, to) < near + wide);
   const left = runsOf(item.points, isGone).flatMap(([first, ...others], i) => [i ? { ...first, up: true } : first, ...others]);
   const look = { kind: item.kind, colour: colourFor(item, hand), width: item.width, scale: item.flag };
   return left.length ? writeStroke(look, left).map(({ text }) => placed(text, 0)) : [];

@@ -2,6 +2,7 @@
 import { boxAbout } from './cells.js';
 import { inkOf } from './ink.js';
 import { itemsOf } from './inkitems.js';
+import { LANGUAGE, isFromRight, wordingIn } from './language.js';
 import { Layout } from './layout.js';
 
 /** @typedef {import('./types.js').Board} Board */
@@ -79,11 +80,11 @@ export function svgOf(board, tintOf, paper, title) {
     + `font-size="${SIZE}" role="img"><title>${escaped(title)}</title>\n<rect width="100%" height="100%" fill="${paper}"/>\n${texts.join('\n')}\n</svg>\n`;
 }
 
-/** All pages as one HTML file that needs nothing else.
- * @type {(pages: { title: string, svg: string }[]) => string} */
-export function htmlOf(pages) {
+/** All pages as one HTML file that needs nothing else, in a language.
+ * @type {(pages: { title: string, svg: string }[], language?: string) => string} */
+export function htmlOf(pages, language = LANGUAGE) {
   const style = 'body{margin:2rem;font:16px/1.5 sans-serif}section{margin:0 0 3rem}svg{max-width:100%;height:auto;border:1px solid #ccc}'
     + '@media print{section{break-after:page}}';
   const parts = pages.map(({ title, svg }) => `<section><h2>${escaped(title)}</h2>\n${svg}</section>`);
-  return `<!DOCTYPE html>\n<html lang="en">\n<meta charset="utf-8">\n<title>${pages.length} pages of a board</title>\n<style>${style}</style>\n${parts.join('\n')}\n</html>\n`;
+  return `<!DOCTYPE html>\n<html lang="${language}" dir="${isFromRight(language) ? 'rtl' : 'ltr'}">\n<meta charset="utf-8">\n<title>${wordingIn(language, 'pagesOfBoard', { n: pages.length })}</title>\n<style>${style}</style>\n${parts.join('\n')}\n</html>\n`;
 }

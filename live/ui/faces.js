@@ -1,6 +1,8 @@
 /** Who is here, as faces beside the panel's button. */
+import { coloursFor } from './colours.js';
 import { $, make } from './dom.js';
 import { renew, write } from './keyed.js';
+import { wording } from './language.js';
 import { initialsOf } from './notes.js';
 
 /** @typedef {import('./types.js').Other} Other */
@@ -15,6 +17,12 @@ export class Faces {
     /** Who is there, this member first, and since when that is known.
      * @type {Other[]} */
     this.members = [];
+    /** The member of the program itself, which keeps the board and is nobody.
+     * @type {Other | null} */
+    this.keeper = null;
+    /** The colours of those who have chosen none.
+     * @type {Map<number, number>} */
+    this.colours = new Map();
     this.heardAt = 0;
     const { session } = board;
     session.on('members', ({ members }) => this.take(members));
@@ -24,10 +32,17 @@ export class Faces {
 
   /** @param {Other[]} members */
   take(members) {
-    const { me } = this.board.session.hello;
-    this.members = [members.find(({ member }) => member === me) ?? { member: me }, ...members.filter(({ member }) => member !== me)];
+    const { me, keeper } = this.board.session.hello;
+    this.members = [members.find(({ member }) => member === me) ?? { member: me }, ...members.filter(({ member }) => member !== me && member !== keeper)];
+    this.keeper = members.find(({ member }) => member === keeper) ?? null;
     this.heardAt = performance.now();
+    this.board.takeColours();
     this.show();
+  }
+
+  /** Gives those who have chosen none a colour each. */
+  colour() {
+    this.colours = coloursFor(this.members.map(({ member }) => member), this.board.notes.told.colours);
   }
 
   /** Whether a member is here.
@@ -57,7 +72,8 @@ export class Faces {
     const isAway = Boolean(page) && page !== session.board.page;
     write(face, initialsOf(session.called.get(member), member));
     face.style.setProperty('--c', painter.tintOf(member));
-    face.title = isMe ? `${session.nameOf(member)} (you)` : `${session.nameOf(member)}${isAway ? `, on ${session.titleOf(page)}` : ''}: follow`;
+    const told = { name: session.nameOf(member), page: page ? session.titleOf(page) : '' };
+    face.title = wording(isMe ? 'nameYou' : isAway ? 'followNameOn' : 'followName', told);
     face.setAttribute('aria-label', face.title);
     face.setAttribute('aria-pressed', String(follow.leader === member));
     face.classList.toggle('elsewhere', isAway);

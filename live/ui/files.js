@@ -2,10 +2,12 @@
 import { insert } from './clipboard.js';
 import { $, tell } from './dom.js';
 import { extentOf, htmlOf, runsOf, svgOf, textOf } from './exports.js';
+import { RULED, ruled } from './ground.js';
 import { itemsOf } from './inkitems.js';
 import { InkPaint, boxAboutAll, inOrder } from './inkpaint.js';
 import { CELL_WIDE } from './inksigns.js';
 import { svgOfInk } from './inksvg.js';
+import { LANGUAGE, wording } from './language.js';
 import { Printing } from './printing.js';
 
 /** @typedef {import('./types.js').Board} Board */
@@ -50,7 +52,7 @@ export class Files {
    * @param {Board} board */
   svg(board) {
     const title = this.titleOf(board.page);
-    if (this.board.painter.isInk) return svgOfInk(itemsOf(board.drawops), this.day, title);
+    if (this.board.painter.isInk) return svgOfInk(itemsOf(board.drawops), this.day, title, this.board.notes.paperOf(board.page));
     return svgOf(board, (source) => this.tintOf(source), this.day.shades.colours.paper, title);
   }
 
@@ -86,13 +88,22 @@ export class Files {
     if (!box) return;
     const { x0, y0, x1, y1 } = box, scale = Math.min(most / CELL_WIDE, (width - INK.about) / (x1 - x0), (height - INK.about) / (y1 - y0));
     brush.setTransform(scale, 0, 0, scale, width / 2 - ((x0 + x1) / 2) * scale, height / 2 - ((y0 + y1) / 2) * scale);
+    if (paints === this.day) this.rule(brush, board.page, scale);
     inOrder(items).forEach((item) => paints.paint(brush, item, { wide: scale * CELL_WIDE }));
+  }
+
+  /** Rules a picture as the paper of its page is.
+   * @param {CanvasRenderingContext2D} brush @param {string} page @param {number} scale */
+  rule(brush, page, scale) {
+    const { e, f } = brush.getTransform(), { width, height } = brush.canvas;
+    Object.assign(brush, { strokeStyle: RULED.colour, lineWidth: RULED.width });
+    brush.stroke(new Path2D(ruled(this.board.notes.paperOf(page), { x0: -e / scale, y0: -f / scale, x1: (width - e) / scale, y1: (height - f) / scale })));
   }
 
   savePng() {
     const canvas = document.createElement('canvas');
     if (this.board.painter.isInk) this.pngOfInk(canvas);
-    else if (!this.pngOfCells(canvas)) return tell('The page is too large for one PNG: save it as SVG.');
+    else if (!this.pngOfCells(canvas)) return tell(wording('pngTooLarge'));
     canvas.toBlob((blob) => blob && this.save('png', 'image/png', blob));
     return undefined;
   }
@@ -127,12 +138,12 @@ export class Files {
 
   async saveAll() {
     const boards = await this.boards();
-    this.save('html', 'text/html', htmlOf(boards.map((board) => ({ title: this.titleOf(board.page), svg: this.svg(board) }))), 'board');
+    this.save('html', 'text/html', htmlOf(boards.map((board) => ({ title: this.titleOf(board.page), svg: this.svg(board) })), LANGUAGE), 'board');
   }
 
   async saveRecord() {
     const record = await this.board.session.member.record?.();
-    if (record == null) tell('There is no record to save.');
+    if (record == null) tell(wording('noRecord'));
     else this.save('record', 'text/plain', record, `member-${this.board.session.hello.me}`);
   }
 
@@ -141,8 +152,8 @@ export class Files {
   async open(file) {
     $('opened').value = '';
     if (!file) return;
-    if (file.size > MOST_BYTES) tell(`A text of over ${MOST_BYTES / 1000} kilobytes is not opened.`);
-    else if (/^(image|audio|video)\//.test(file.type)) tell('A page has no pictures: strokes, shapes and letters only.');
+    if (file.size > MOST_BYTES) tell(wording('textTooLarge', { most: MOST_BYTES / 1000 }));
+    else if (/^(image|audio|video)\//.test(file.type)) tell(wording('noPictures'));
     else insert(this.board.hand, await file.text(), this.board.place());
   }
 }

@@ -1,5 +1,6 @@
 /** A record as a film: a slider over the session, with who drew when, and what was lost at first. */
 import { $ } from './dom.js';
+import { wording } from './language.js';
 
 /** @typedef {import('./types.js').Film} Film */
 /** @typedef {import('./types.js').Scene} Scene */
@@ -49,9 +50,10 @@ export class FilmBar {
     document.body.dataset.film = '';
     slider.max = film.last;
     if (!this.timer) slider.value = film.at;
-    $('film-stop').textContent = film.stopped ? 'Play' : 'Stop';
-    const what = scene ? `${this.session.who(scene[1])}: ${scene[2]}${scene[3] ? ', lost at first' : ''}` : '';
-    const told = `${clockOf(film.at)} of ${clockOf(film.last)}   ${count} of ${this.scenes.length}   ${what}${film.missing ? `   ${film.missing} missing` : ''}`;
+    $('film-stop').textContent = wording(film.stopped ? 'play' : 'stop');
+    const drawn = scene ? `${this.session.who(scene[1])}: ${scene[2]}` : '', what = scene?.[3] ? wording('sceneLost', { what: drawn }) : drawn;
+    const at = wording('filmTold', { at: clockOf(film.at), last: clockOf(film.last), count, many: this.scenes.length, what });
+    const told = film.missing ? `${at}   ${wording('missing', { n: film.missing })}` : at;
     $('film-told').textContent = told;
     slider.setAttribute('aria-valuetext', told);
   }

@@ -1,6 +1,7 @@
 /** Following somebody: what they have in view is in view here too, until the hand moves the view itself; and calling all to oneself. */
 import { $, say, tell } from './dom.js';
 import { write } from './keyed.js';
+import { wording } from './language.js';
 import { viewLine } from './points.js';
 
 /** The cells that stay about the pointer of who is followed, if only that is known. */
@@ -39,7 +40,7 @@ export class Follow {
     const { session, others } = this.board;
     if (member === this.leader) return;
     this.leader = member;
-    say(member === null ? 'following nobody' : `following ${session.nameOf(member)}`);
+    say(member === null ? wording('followingNobody') : wording('following', { name: session.nameOf(member) }));
     this.show();
     session.emit('followed');
     others.soon();
@@ -54,7 +55,7 @@ export class Follow {
    * @param {import('./types.js').Other[]} members */
   leave(members) {
     if (this.leader === null || members.some(({ member }) => member === this.leader)) return;
-    tell(`${this.board.session.nameOf(this.leader)} is not here any more.`);
+    tell(wording('notHere', { name: this.board.session.nameOf(this.leader) }));
     this.stop();
   }
 
@@ -74,7 +75,7 @@ export class Follow {
     others.setTold(true);
     [this.call, this.callsUntil] = [Date.now() % 2 ** 32, performance.now() + CALLS];
     others.soon();
-    tell('Everybody is called to what you see.', true);
+    tell(wording('calledAll'), true);
   }
 
   /** Tells again what somebody waits for, since datagrams are lost. */
@@ -137,6 +138,6 @@ export class Follow {
     frame.hidden = this.leader === null;
     if (this.leader === null) return;
     frame.style.setProperty('--c', painter.tintOf(this.leader));
-    write(frame.querySelector('span'), `Following ${session.nameOf(this.leader)}${owner.wish ? ', once you are done' : ''}`);
+    write(frame.querySelector('span'), wording(owner.wish ? 'followingSoon' : 'following', { name: session.nameOf(this.leader) }));
   }
 }

@@ -6,6 +6,7 @@ import { inkOf } from './ink.js';
 import { CELL_HIGH, CELL_WIDE } from './inksigns.js';
 import { INK_TOOLS, carriedAll } from './inktools.js';
 import { placed } from './inkwriting.js';
+import { wording } from './language.js';
 import { MOST_AT_ONCE } from './shapes.js';
 import { TOOLS } from './tools.js';
 
@@ -118,7 +119,7 @@ export class Hand {
     document.body.dataset.hand = tool;
     this.parts.style.show();
     this.parts.changing.show();
-    say(`${tool} chosen`);
+    say(wording('toolChosen', { tool: wording(/** @type {import('./language.js').Key} */ (tool)) }));
     this.changed();
   }
 
@@ -178,7 +179,7 @@ export class Hand {
   change(shapes, doomed, how = {}) {
     const { page, isAgain = false } = how;
     if (shapes.length + doomed.length === 0) return null;
-    if (shapes.length > MOST_AT_ONCE) return tell(`Not drawn: over ${MOST_AT_ONCE} drawings at once.`), null;
+    if (shapes.length > MOST_AT_ONCE) return tell(wording('tooMany', { most: MOST_AT_ONCE })), null;
     const step = this.steps.begin(page);
     shapes.forEach((shape) => step.draw(shape.op === 'text' && inkOf(shape) ? this.placed(shape.text, isAgain) : shape));
     doomed.forEach((drawing) => step.hide(drawing));
@@ -217,7 +218,7 @@ export class Hand {
 
   tellSelection() {
     const count = this.parts.painter.isInk ? this.chosenItems().length : this.selected().length;
-    say(count === 1 ? 'one drawing selected' : `${count} drawings selected`);
+    say(wording('selected', { n: count }));
     this.chose();
   }
 

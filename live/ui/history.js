@@ -1,10 +1,12 @@
 /** What was erased of a page, a row for each step, by whom and when; it comes back by one click. And the page as it was. */
 import { nameOf } from './cells.js';
 import { $, make, say } from './dom.js';
-import { inkOf, isStroke } from './ink.js';
+import { inkOf } from './ink.js';
+import { KINDS } from './inkkinds.js';
 import { itemsOf } from './inkitems.js';
 import { isAgain } from './inkwriting.js';
 import { renew, write } from './keyed.js';
+import { LOCALE, wording } from './language.js';
 
 /** @typedef {import('./types.js').Board} Board */
 /** @typedef {import('./types.js').Drawing} Drawing */
@@ -12,10 +14,7 @@ import { renew, write } from './keyed.js';
 /** What one step erased: who, when in microseconds, and the drawings.
  * @typedef {{ by: number, at: number, drawings: Erased[] }} Row */
 
-/** Deletes of one step come within this many microseconds of one another: they are asked for at once, and a hand needs longer for two. */
-const TOGETHER = 300_000;
-
-/** Microseconds of a second. */
+/** Microseconds of a second. Deletes of one step come within one of one another, also on a slow machine; what a hand erases so soon again is a step with it. */
 const SECOND = 1_000_000;
 
 /** How many times as large as a page at a glance the page as it was is. */
@@ -24,14 +23,22 @@ const LARGE = 3;
 /** Rows that are listed. */
 const MOST_ROWS = 50;
 
+/** If somebody else erases as many drawings as this or more at once, the page offers to bring them back; and milliseconds for which it does. */
+const MANY = 5, OFFERED = 20_000;
+
 /** What a drawing is, in a word or by its letters.
  * @param {Drawing} drawing */
 export function kindOf(drawing) {
-  const ink = inkOf(drawing), letters = ink ? ink.letters : drawing.op === 'text' ? drawing.text : '';
-  if (letters) return `“${letters.slice(0, 16)}”`;
-  if (!ink) return drawing.op;
-  return ink.kind === 'h' ? 'highlighter' : isStroke(ink.kind) ? 'writing' : 'shape';
+  const letters = lettersOf(drawing);
+  return letters ? wording('quoted', { letters: letters.slice(0, 16) }) : wording(KINDS[inkOf(drawing)?.kind ?? drawing.op].name);
 }
+
+/** @param {Drawing} drawing */
+const lettersOf = (drawing) => inkOf(drawing)?.letters ?? (drawing.op === 'text' ? drawing.text : '');
+
+/** Whether it is letters.
+ * @param {Drawing} drawing */
+export const hasLetters = (drawing) => lettersOf(drawing) !== '';
 
 /** What was erased of a page, the latest step first. What was drawn anew elsewhere, as by a move, was not erased.
  * @type {(board: Board) => Row[]} */
@@ -39,7 +46,7 @@ export function rowsOf({ drawops, hidden }) {
   const found = new Map([...drawops, ...hidden].map((drawing) => [nameOf(drawing), drawing])), /** @type {(Row & { last: number, before: string | null, drawn?: Drawing })[]} */ rows = [];
   const erased = hidden.flatMap((drawing) => (drawing.erased ? [{ drawing, by: drawing.erased[0], seq: drawing.erased[1], at: Number(drawing.erased[2]), before: drawing.erased[3] }] : []));
   for (const { drawing, by, seq, at, before } of erased.sort((a, b) => a.by - b.by || a.seq - b.seq)) {
-    const row = rows[rows.length - 1], isMore = row?.by === by && at - row.last <= TOGETHER && before === 'delete';
+    const row = rows[rows.length - 1], isMore = row?.by === by && at - row.last <= SECOND && before === 'delete';
     if (isMore) [row.last, row.drawings] = [at, [...row.drawings, drawing]];
     else rows.push({ by, at, last: at, drawings: [drawing], before, drawn: before === null ? undefined : found.get(`${by} ${seq - 1}`) });
   }
@@ -70,7 +77,7 @@ export function momentsOf({ drawops, hidden }) {
 
 /** A moment as a clock shows it.
  * @type {(at: number, hasSeconds?: boolean) => string} */
-export const hourOf = (at, hasSeconds = false) => new Date(at / 1000).toLocaleTimeString([], { hour: '2-digit', minute: '2-digit', ...hasSeconds ? { second: '2-digit' } : {} });
+export const hourOf = (at, hasSeconds = false) => new Date(at / 1000).toLocaleTimeString(LOCALE, { hour: '2-digit', minute: '2-digit', ...hasSeconds ? { second: '2-digit' } : {} });
 
 export class History {
   /** @param {import('./whiteboard.js').Whiteboard} board */
@@ -78,7 +85,12 @@ export class History {
     this.board = board;
     /** @type {number[]} */
     this.moments = [];
-    board.session.on('board', () => this.show());
+    /** What is offered, until when.
+     * @type {Erased[]} */
+    this.offered = [];
+    this.timer = 0;
+    board.session.on('board', (_, taken) => { this.show(); this.watch(taken); });
+    $('cleared').querySelector('button').addEventListener('click', () => { this.restore(this.offered); this.offer(null); board.focusSheet(); });
     board.session.on('notes', () => this.show());
     $('earlier-open').addEventListener('click', () => this.open());
     $('earlier-at').addEventListener('input', () => this.look());
@@ -89,13 +101,16 @@ export class History {
   show() {
     const { session } = this.board, isSeen = !$('side').hidden && !$('panel-people').hidden;
     if (!isSeen) return;
+    const hadFocus = $('hiding').contains(document.activeElement);
     $('hiding').hidden = !session.board.hidden.length;
     renew($('hidden'), rowsOf(session.board).slice(0, MOST_ROWS), ({ by, at }) => `${by} ${at}`, () => this.line(), (line, row) => this.showRow(line, row));
+    // a row that is brought back is gone: whoever works by keys goes on at the next
+    if (hadFocus && ($('hiding').hidden || !$('hiding').contains(document.activeElement))) ($('hiding').hidden ? $('tab-people') : $('hidden').querySelector('button') ?? $('tab-people')).focus();
   }
 
   line() {
-    const line = make('li'), words = make('span'), button = make('button', 'Bring back');
-    words.append(make('b'), make('i'), make('time'));
+    const line = make('li'), words = make('span'), button = make('button', wording('bringBack'));
+    words.append(make('i'), make('time'));
     button.addEventListener('click', () => this.restore(line.drawings));
     line.append(words, button);
     return line;
@@ -103,18 +118,42 @@ export class History {
 
   /** @param {any} line @param {Row} row */
   showRow(line, { by, at, drawings }) {
-    const { session } = this.board, [words, button] = line.children, many = itemsOf(drawings).length, who = session.who(by);
-    const what = many === 1 ? `erased ${kindOf(drawings[0])}` : `cleared ${many} drawings`;
+    const { session } = this.board, [words, button] = line.children, n = itemsOf(drawings).length, isMe = by === session.hello.me, who = session.who(by);
+    const one = { who, what: kindOf(drawings[0]) }, what = n === 1 ? wording(isMe ? 'youErased' : 'erased', one) : wording(isMe ? 'youCleared' : 'cleared', { who, n });
     line.drawings = drawings;
-    [who === 'you' ? 'You' : who, ` ${what} `, hourOf(at)].forEach((text, i) => write(words.children[i], text));
-    button.setAttribute('aria-label', `Bring back what ${who} ${what} at ${hourOf(at)}`);
+    [`${what} `, hourOf(at)].forEach((text, i) => write(words.children[i], text));
+    button.setAttribute('aria-label', wording('bringBackWhat', { what, hour: hourOf(at) }));
   }
 
   /** @param {Drawing[]} drawings */
   restore(drawings) {
     const step = this.board.steps.begin();
     drawings.forEach((drawing) => step.restore(drawing));
-    say(`${drawings.length} brought back`);
+    say(wording('broughtBack', { n: itemsOf(drawings).length }));
+  }
+
+  // ---- what somebody else clears
+
+  /** Looks whether others erase much at once, and whether what is offered is still erased.
+   * @param {import('./session.js').Taken} taken */
+  watch({ isTurned, gone }) {
+    const { board, erased, hello: { me } } = this.board.session, isErased = (/** @type {Drawing} */ drawing) => /** @type {Erased | undefined} */ (erased.get(nameOf(drawing)));
+    if (isTurned || (this.offered.length && !this.offered.some(isErased))) this.offer(null);
+    if (isTurned || !gone.some((drawing) => (isErased(drawing)?.erased?.[0] ?? me) !== me)) return;
+    const [row] = rowsOf(board);
+    if (row && row.by !== me && itemsOf(row.drawings).length >= MANY) this.offer(row);
+  }
+
+  /** Offers to bring a row back, or nothing any more.
+   * @param {Row | null} row */
+  offer(row) {
+    const bar = $('cleared');
+    clearTimeout(this.timer);
+    this.offered = row?.drawings ?? [];
+    bar.hidden = !row;
+    if (!row) return;
+    write(bar.querySelector('span'), wording('cleared', { who: this.board.session.nameOf(row.by), n: itemsOf(row.drawings).length }));
+    this.timer = /** @type {any} */ (setTimeout(() => this.offer(null), OFFERED));
   }
 
   // ---- the page as it was
@@ -131,10 +170,10 @@ export class History {
 
   /** Shows the page as it was at the moment that is chosen, and what would come back. */
   look() {
-    const { session, overview } = this.board, at = this.moments[Number($('earlier-at').value)] ?? 0, missing = this.missing().length;
+    const { session, overview } = this.board, at = this.moments[Number($('earlier-at').value)] ?? 0, missing = itemsOf(this.missing()).length;
     overview.paint($('earlier-canvas'), { ...session.board, drawops: shownAt(session.board, at) }, LARGE);
     $('earlier-told').textContent = hourOf(at, true);
-    $('earlier-back').textContent = missing ? `Bring back ${missing} ${missing === 1 ? 'drawing' : 'drawings'}` : 'Nothing is missing since';
+    $('earlier-back').textContent = missing ? wording('bringBackMany', { n: missing }) : wording('nothingMissing');
     $('earlier-back').disabled = !missing;
   }
 

@@ -1,5 +1,6 @@
 /** Ink: strokes, shapes, notes and letters as texts of the board (docs/INK.md). This reads them, and knows of no screen. A text that
  * does not read is no ink, and is shown as every other text. */
+import { KINDS } from './inkkinds.js';
 import { isAddress, readLetters } from './inkletters.js';
 import { BASE, FIRST_ROW, FULL_PRESSURE, LIFT_STILL, TILDE, isOnPage, numberOf, valueOf, wayOf } from './inksigns.js';
 
@@ -8,13 +9,6 @@ import { BASE, FIRST_ROW, FULL_PRESSURE, LIFT_STILL, TILDE, isOnPage, numberOf, 
  * @typedef {{ x: number, y: number, up?: boolean, pressure?: number }} Point */
 /** What a text draws. The kind is its second sign; of a stroke the flag is the scale; `goesOn` says that it belongs to the ink before it.
  * @typedef {{ kind: string, colour: number, width: number, flag: number, goesOn: boolean, points: Point[], letters: string }} Ink */
-
-/** @type {(kind: string) => boolean} */
-export const isStroke = (kind) => kind === 's' || kind === 'h' || kind === 'v';
-
-/** Frames, ellipses, diamonds and notes: two points are their corners, and they may have letters.
- * @type {(kind: string) => boolean} */
-export const isClosed = (kind) => kind === 'r' || kind === 'o' || kind === 'd' || kind === 'n';
 
 /** The flags, and those of ink that goes on. */
 export const FLAGS = '01234567', GOING_ON = 'abcdefgh';
@@ -25,7 +19,7 @@ export function readInk(text) {
   if (!/^~[ -~]{9,63}$/.test(text)) return null;
   const kind = text[1], style = valueOf(text[2]), flag = (FLAGS + GOING_ON).indexOf(text[3]), start = { x: numberOf(text.slice(4, 7)), y: numberOf(text.slice(7, 10)) };
   const reads = RESTS.get(kind), goesOn = flag > 7;
-  if (!reads || !(style < 90) || flag < 0 || !isOnPage(start) || (goesOn && !isStroke(kind) && kind !== 't')) return null;
+  if (!reads || !(style < 90) || flag < 0 || !isOnPage(start) || (goesOn && !KINDS[kind].goesOn)) return null;
   const ink = { kind, colour: Math.floor(style / 9), width: style % 9, flag: flag % 8, goesOn, points: [start], letters: '' };
   return reads(text.slice(10), ink) ? ink : null;
 }
@@ -79,7 +73,7 @@ class Signs {
 /** The points of a stroke, from step to step.
  * @type {(rest: string, ink: Ink) => boolean} */
 function readSteps(rest, { kind, flag, points }) {
-  const signs = new Signs(rest), unit = 2 ** flag, isPressed = kind === 'v';
+  const signs = new Signs(rest), unit = 2 ** flag, { isPressed } = KINDS[kind];
   if (isPressed) points[0].pressure = signs.pressure();
   while (!signs.isAtEnd()) {
     const last = points[points.length - 1], up = signs.lifts();

@@ -8,12 +8,16 @@ const CORNER = 0.2588;
 /** @type {(a: Point, b: Point) => number} */
 export const distance = (a, b) => Math.hypot(b.x - a.x, b.y - a.y);
 
+/** The cosine of the turn of a way at `b`: 1 if it goes straight on, or has no length.
+ * @type {(a: Point, b: Point, c: Point) => number} */
+export function cosine(a, b, c) {
+  const size = distance(a, b) * distance(b, c);
+  return size > 0 ? ((b.x - a.x) * (c.x - b.x) + (b.y - a.y) * (c.y - b.y)) / size : 1;
+}
+
 /** Whether a way turns sharply at `b`.
  * @type {(a: Point, b: Point, c: Point) => boolean} */
-export function isCorner(a, b, c) {
-  const size = distance(a, b) * distance(b, c);
-  return size > 0 && ((b.x - a.x) * (c.x - b.x) + (b.y - a.y) * (c.y - b.y)) / size < CORNER;
-}
+export const isCorner = (a, b, c) => cosine(a, b, c) < CORNER;
 
 /** The middle point of a cubic that is near to `from`. `before` is the point of the stroke before it, as seen from `to`.
  * @type {(before: Point | null, from: Point, to: Point) => Point} */

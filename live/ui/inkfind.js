@@ -1,8 +1,7 @@
 /** Which items are where: those that can leave a mark in a box, and that are under a hand. */
-import { isClosed, isStroke } from './ink.js';
 import { off } from './inkcurves.js';
-import { isLetters } from './inkfonts.js';
-import { BROAD, boxOf, overlap } from './inkpaint.js';
+import { KINDS, broadOf, fillOf, isLetters, isLine, isStroke } from './inkkinds.js';
+import { boxOf, overlap } from './inkpaint.js';
 import { WIDTHS } from './inksigns.js';
 
 /** @typedef {import('./ink.js').Point} Point */
@@ -15,10 +14,10 @@ const BORDER = 200, BESIDE = 400;
 /** Whether an item can leave a mark in a box: what is only about it does not.
  * @type {(item: Item, box: Box) => boolean} */
 export function meets(item, box) {
-  const own = boxOf(item), { kind, points, flag, letters } = item;
+  const own = boxOf(item), { kind, points, flag } = item, { form, isNote } = KINDS[kind];
   if (!overlap(own, box)) return false;
-  if (kind === 'frame' || (kind === 'r' && !(flag & 3) && !letters)) return !(box.x0 > own.x0 + BORDER && box.x1 < own.x1 - BORDER && box.y0 > own.y0 + BORDER && box.y1 < own.y1 - BORDER);
-  if ((kind === 'l' || kind === 'line') && points.length === 2 && !flag) {
+  if (form === 'closed' && !isNote && isHollow(item) && KINDS[kind].deep === KINDS.frame.deep) return !(box.x0 > own.x0 + BORDER && box.x1 < own.x1 - BORDER && box.y0 > own.y0 + BORDER && box.y1 < own.y1 - BORDER);
+  if (form === 'line' && points.length === 2 && !flag) {
     const middle = { x: (box.x0 + box.x1) / 2, y: (box.y0 + box.y1) / 2 };
     return off(middle, points[0], points[1]) < Math.hypot(box.x1 - box.x0, box.y1 - box.y0) / 2 + BESIDE;
   }
@@ -28,29 +27,31 @@ export function meets(item, box) {
 /** The parts of an item that a point is near to, by the places of their first points: of a stroke from lift to lift, else the whole.
  * @type {(item: Item, at: Point, near: number) => number[]} */
 export function partsAt(item, at, near) {
-  const { kind, width } = item, box = boxOf(item);
+  const { form, isNote } = KINDS[item.kind], box = boxOf(item);
   if (at.x < box.x0 - near || at.x > box.x1 + near || at.y < box.y0 - near || at.y > box.y1 + near) return [];
-  const by = near + WIDTHS[width] * (kind === 'h' ? BROAD : 1) * 0.5;
-  if (isLetters(item) || kind === 'n') return [0];
-  if (isClosed(kind) || kind === 'frame') return isInShape(item, at, by) ? [0] : [];
+  const by = near + WIDTHS[item.width] * broadOf(item) * 0.5;
+  if (isLetters(item) || isNote) return [0];
+  if (form === 'closed') return isInShape(item, at, by) ? [0] : [];
   return strokesAt(item, at, by);
 }
 
+/** Whether a closed item is only about what it is about.
+ * @type {(item: Item) => boolean} */
+const isHollow = (item) => !fillOf(item) && !item.letters;
+
 /** Whether a point is near to the border of a shape, or in one that is not empty.
  * @type {(item: Item, at: Point, by: number) => boolean} */
-function isInShape({ kind, points: [a, b], flag, letters }, at, by) {
-  const [wide, high] = [Math.abs(a.x - b.x) / 2 || 1, Math.abs(a.y - b.y) / 2 || 1], [dx, dy] = [Math.abs(at.x - (a.x + b.x) / 2), Math.abs(at.y - (a.y + b.y) / 2)];
+function isInShape(item, at, by) {
+  const { kind, points: [a, b] } = item, [wide, high] = [Math.abs(a.x - b.x) / 2 || 1, Math.abs(a.y - b.y) / 2 || 1], [dx, dy] = [Math.abs(at.x - (a.x + b.x) / 2), Math.abs(at.y - (a.y + b.y) / 2)];
   // how far the point is inside the border, about
-  const inside = kind === 'o' ? (1 - Math.hypot(dx / wide, dy / high)) * Math.min(wide, high)
-    : kind === 'd' ? (1 - dx / wide - dy / high) * ((wide * high) / Math.hypot(wide, high)) : Math.min(wide - dx, high - dy);
-  const isEmpty = !(flag & 3) && !letters;
-  return inside > -by && (!isEmpty || inside < by);
+  const inside = KINDS[kind].deep?.(dx, dy, wide, high) ?? 0;
+  return inside > -by && (!isHollow(item) || inside < by);
 }
 
 /** @type {(item: Item, at: Point, by: number) => number[]} */
-function strokesAt({ kind, points }, at, by) {
+function strokesAt(item, at, by) {
   /** @type {Set<number>} */
-  const found = new Set(), isBent = kind === 'l' && points.length === 3, way = isBent ? [points[0], points[2], points[1]] : points;
+  const found = new Set(), { kind, points } = item, isBent = isLine(item) && !KINDS[kind].isPlain && points.length === 3, way = isBent ? [points[0], points[2], points[1]] : points;
   let start = 0;
   way.forEach((point, i) => {
     if (point.up) start = i;

@@ -1,5 +1,5 @@
 /** Letters of inks on a canvas: their fonts, their lines, and how wide they are. */
-import { isClosed } from './ink.js';
+import { KINDS, isClosed } from './inkkinds.js';
 import { CELL_HIGH, CELL_WIDE, SIZES } from './inksigns.js';
 
 /** @typedef {import('./ink.js').Point} Point */
@@ -52,7 +52,7 @@ const known = new WeakMap();
 export function linesOf(item) {
   const found = known.get(item), [a, b] = item.points;
   if (found) return found;
-  const room = isClosed(item.kind) && Math.abs(a.x - b.x) - (item.kind === 'n' ? FREE.note : FREE.shape);
+  const room = isClosed(item.kind) && Math.abs(a.x - b.x) - (KINDS[item.kind].isNote ? FREE.note : FREE.shape);
   const lines = room === false ? item.letters.split('\n') : broken(item.letters, room, 0, SIZES[IN_SHAPES]);
   known.set(item, lines);
   return lines;
@@ -62,17 +62,14 @@ export function linesOf(item) {
  * @type {(line: string) => boolean} */
 export const isFromRight = (line) => /^[^\p{L}]*[\u0590-\u08ff\ufb1d-\ufdff\ufe70-\ufefc]/u.test(line);
 
-/** Whether an item is letters alone.
- * @type {(item: { kind: string }) => boolean} */
-export const isLetters = ({ kind }) => kind === 't' || kind === 'k' || kind === 'text';
-
 /** How the letters of an item stand: their font and size, the upper left corner of the first line, or its upper middle.
  * @type {(item: Item) => { font: number, size: number, x: number, y: number, isMiddle: boolean }} */
 export function standOf(item) {
   const { kind, points: [a, b], width, flag } = item, size = SIZES[IN_SHAPES];
-  if (kind === 'text') return { font: 1, size: OF_CELLS, x: a.x, y: a.y + (CELL_HIGH - OF_CELLS * LEADING) / 2, isMiddle: false };
-  if (!isClosed(kind)) return { font: kind === 'k' ? 0 : flag, size: SIZES[width], x: a.x, y: a.y, isMiddle: false };
-  if (kind === 'n') return { font: 0, size, x: Math.min(a.x, b.x) + FREE.note / 2, y: Math.min(a.y, b.y) + 60 - size * 0.14, isMiddle: false };
+  const { isPlain, isLink, isNote } = KINDS[kind];
+  if (isPlain) return { font: 1, size: OF_CELLS, x: a.x, y: a.y + (CELL_HIGH - OF_CELLS * LEADING) / 2, isMiddle: false };
+  if (!isClosed(kind)) return { font: isLink ? 0 : flag, size: SIZES[width], x: a.x, y: a.y, isMiddle: false };
+  if (isNote) return { font: 0, size, x: Math.min(a.x, b.x) + FREE.note / 2, y: Math.min(a.y, b.y) + 60 - size * 0.14, isMiddle: false };
   return { font: 0, size, x: (a.x + b.x) / 2, y: (a.y + b.y) / 2 - (linesOf(item).length * size * LEADING) / 2, isMiddle: true };
 }
 
@@ -80,7 +77,7 @@ export function standOf(item) {
  * @type {(item: Item) => import('./inkpaint.js').Box} */
 export function boxOfLetters(item) {
   const { points: [a], letters, kind } = item, { font, size } = standOf(item), lines = linesOf(item);
-  if (kind === 'text') return { x0: a.x, y0: a.y, x1: a.x + letters.length * CELL_WIDE, y1: a.y + CELL_HIGH };
+  if (KINDS[kind].isPlain) return { x0: a.x, y0: a.y, x1: a.x + letters.length * CELL_WIDE, y1: a.y + CELL_HIGH };
   const wide = Math.max(...lines.map((line) => widthOf(line, font, size)));
   return { x0: a.x, y0: a.y, x1: a.x + wide, y1: a.y + lines.length * size * LEADING };
 }

@@ -1,5 +1,6 @@
 /** The items of a page: each ink with those that go on from it, and each plain drawing, in the order of painting (docs/INK.md, "Going on"). */
-import { inkOf, isClosed, isStroke } from './ink.js';
+import { inkOf } from './ink.js';
+import { isStroke, isTyped } from './inkkinds.js';
 import { CELL_HIGH, CELL_WIDE, OWN } from './inksigns.js';
 
 /** @typedef {import('./types.js').Drawing} Drawing */
@@ -49,7 +50,7 @@ function begun({ drawing, ink }) {
  * @type {(item: Item, ink: Ink) => boolean} */
 function isOneWith({ kind, colour, width }, ink) {
   if (!ink.goesOn || ink.colour !== colour) return false;
-  return isStroke(ink.kind) ? ink.kind === kind && ink.width === width : kind === 't' || isClosed(kind);
+  return isStroke(ink.kind) ? ink.kind === kind && ink.width === width : isTyped({ kind });
 }
 
 /** Whether a drawing is a head: a line of no length with the glyph of one.

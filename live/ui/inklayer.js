@@ -3,6 +3,7 @@
 import { Grid } from './grid.js';
 import { meets } from './inkfind.js';
 import { Items } from './inkitems.js';
+import { KINDS } from './inkkinds.js';
 import { InkPaint } from './inkpaint.js';
 import { CELL_WIDE } from './inksigns.js';
 
@@ -21,8 +22,8 @@ const TILE = 256, BUDGET = 7;
 /** What is painted in a frame at most, in points of items: a canvas puts much of the work off until the frame ends, when no clock is looked at. */
 const WORK = 3000;
 
-/** How many letters count as a point, and as a point with pressure. */
-const LETTERS = 4, PRESSED = 6;
+/** How many letters count as a point, and how many points one with pressure. */
+const LETTERS = 4, PRESSED = 3;
 
 /** Drawings that go, or come, between two looks at the clock. */
 const TAKEN_AT_ONCE = 100;
@@ -203,7 +204,7 @@ export class InkLayer {
 
 /** What an item costs to paint, about, in points.
  * @type {(item: Item) => number} */
-const workOf = ({ points, kind, letters }) => points.length * (kind === 'v' ? PRESSED : 1) + letters.length / LETTERS;
+const workOf = ({ points, kind, letters }) => points.length * (KINDS[kind].isPressed ? PRESSED : 1) + letters.length / LETTERS;
 
 /** @type {(picture: Picture) => boolean} */
 const isWhole = ({ todo }) => todo !== null && todo.length === 0;

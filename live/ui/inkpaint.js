@@ -1,8 +1,9 @@
 /** Paints items on a canvas, in units: what is on the sheet, what is saved as a picture, and what is not sent yet. */
 import { BRIGHT, DAY, NIGHT } from './colours.js';
-import { isClosed, isStroke } from './ink.js';
-import { LEADING, boxOfLetters, fontOf, isFromRight, isLetters, linesOf, standOf } from './inkfonts.js';
-import { dashesOf, piecesOf, wayOf } from './inkpaths.js';
+import { LEADING, boxOfLetters, fontOf, isFromRight, linesOf, standOf } from './inkfonts.js';
+import { KINDS, broadOf, fillOf, isClosed, isLetters, isLine, isStroke } from './inkkinds.js';
+import { outlineOf } from './inkoutline.js';
+import { dashesOf, wayOf } from './inkpaths.js';
 import { CELL_WIDE, OWN, WIDTHS } from './inksigns.js';
 
 /** @typedef {import('./ink.js').Point} Point */
@@ -16,8 +17,8 @@ import { CELL_WIDE, OWN, WIDTHS } from './inksigns.js';
 /** How a page is coloured: by day or by night, its own colours, and those of members.
  * @typedef {{ isNight: () => boolean, colours: Record<string, string>, tintOf: (source: number) => string }} Shades */
 
-/** How many times as wide as a stroke a highlighter is, and how much it lets through. */
-export const BROAD = 2.4, THIN = 0.45;
+/** How much a highlighter lets through. */
+export const THIN = 0.45;
 
 /** How much of its colour the inside of a tinted shape has, and of a note by day and by night. */
 export const TINT = 0.22, NOTE = { day: 0.42, night: 0.3 };
@@ -33,7 +34,7 @@ const known = new WeakMap();
 function pathsOf(item) {
   const found = known.get(item);
   if (found) return found;
-  const way = wayOf(item), paths = (item.kind === 's' ? way.split(/(?=M)/) : [way]).map((each) => new Path2D(each));
+  const way = wayOf(item), paths = (isStroke(item.kind) && !KINDS[item.kind].isUnder ? way.split(/(?=M)/) : [way]).map((each) => new Path2D(each));
   known.set(item, paths);
   return paths;
 }
@@ -51,18 +52,18 @@ export function boxOf(item) {
 
 /** @type {(item: Item) => Box} */
 function boxMade(item) {
-  const { kind, points, width } = item;
+  const { kind, points, width } = item, { form } = KINDS[kind];
   if (isLetters(item)) return boxOfLetters(item);
   // a curve goes past its points, and the head of an arrow lies beside its line
-  const by = isClosed(kind) || kind === 'frame' ? WIDTHS[width] : isStroke(kind) ? WIDTHS[width] * (kind === 'h' ? BROAD : 1) + 40 : 100 + WIDTHS[width] * 4;
+  const by = form === 'closed' ? WIDTHS[width] : form === 'stroke' ? WIDTHS[width] * broadOf(item) + 40 : 100 + WIDTHS[width] * 4;
   return boxAbout(points, by);
 }
 
 /** The box about what an item leaves on the paper: of writing as wide as its line, where the box for painting is larger.
  * @type {(item: Item) => Box} */
 export function closeBoxOf(item) {
-  const { kind, points, width } = item, isThin = isStroke(kind) || kind === 'l' || kind === 'line';
-  return isThin ? boxAbout(points, (WIDTHS[width] * (kind === 'h' ? BROAD : 1)) / 2) : boxOf(item);
+  const { kind, points, width } = item, isThin = isStroke(kind) || isLine(item);
+  return isThin ? boxAbout(points, (WIDTHS[width] * broadOf(item)) / 2) : boxOf(item);
 }
 
 /** The box about points, and so far about it.
@@ -86,7 +87,7 @@ export function boxAboutAll(items, box = boxOf) {
 
 /** Items as they are painted: those of the highlighter under all others.
  * @type {(items: Item[]) => Item[]} */
-export const inOrder = (items) => [...items.filter(({ kind }) => kind === 'h'), ...items.filter(({ kind }) => kind !== 'h')];
+export const inOrder = (items) => [...items.filter(({ kind }) => KINDS[kind].isUnder), ...items.filter(({ kind }) => !KINDS[kind].isUnder)];
 
 export class InkPaint {
   /** @param {Shades} shades */
@@ -97,19 +98,19 @@ export class InkPaint {
   /** The colour of an item.
    * @param {Item} item */
   colourOf({ colour, source, kind }) {
-    if (kind === 'k') return this.shades.colours.accent;
+    if (KINDS[kind].isLink) return this.shades.colours.accent;
     if (colour === OWN) return this.shades.tintOf(source);
-    return (kind === 'h' ? BRIGHT : this.shades.isNight() ? NIGHT : DAY)[colour];
+    return (KINDS[kind].isUnder ? BRIGHT : this.shades.isNight() ? NIGHT : DAY)[colour];
   }
 
   /** @param {CanvasRenderingContext2D} g @param {Item} item @param {Paint} how */
   paint(g, item, how) {
-    const { kind, width } = item, colour = how.over ?? this.colourOf(item);
+    const { kind, width } = item, { isUnder, isPressed } = KINDS[kind], colour = how.over ?? this.colourOf(item);
     g.strokeStyle = g.fillStyle = colour;
     g.lineCap = g.lineJoin = 'round';
     g.lineWidth = Math.max(WIDTHS[width], CELL_WIDE / how.wide);
-    if (kind === 'h') this.paintBroad(g, item, how);
-    else if (kind === 'v') paintPressed(g, item, CELL_WIDE / how.wide);
+    if (isUnder) this.paintBroad(g, item, how);
+    else if (isPressed) paintPressed(g, item, CELL_WIDE / how.wide);
     else if (isClosed(kind)) this.paintClosed(g, item, colour);
     else if (!isLetters(item)) strokeAll(g, item);
     if (item.letters) this.paintLetters(g, item, colour);
@@ -120,7 +121,7 @@ export class InkPaint {
   paintBroad(g, item, { over, isPicture }) {
     g.globalCompositeOperation = over ? 'source-over' : isPicture ? 'destination-over' : this.shades.isNight() ? 'lighten' : 'multiply';
     g.globalAlpha = over ? 0.6 : THIN;
-    g.lineWidth = WIDTHS[item.width] * BROAD;
+    g.lineWidth = WIDTHS[item.width] * broadOf(item);
     strokeAll(g, item);
     g.globalAlpha = 1;
     g.globalCompositeOperation = 'source-over';
@@ -128,7 +129,7 @@ export class InkPaint {
 
   /** @param {CanvasRenderingContext2D} g @param {Item} item @param {string} colour */
   paintClosed(g, item, colour) {
-    const [path] = pathsOf(item), isNote = item.kind === 'n', fill = isNote ? 1 : item.flag & 3;
+    const [path] = pathsOf(item), { isNote } = KINDS[item.kind], fill = fillOf(item);
     if (isNote) {
       g.fillStyle = this.shades.colours.paper;
       g.fill(path);
@@ -142,16 +143,16 @@ export class InkPaint {
 
   /** @param {CanvasRenderingContext2D} g @param {Item} item @param {string} colour */
   paintLetters(g, item, colour) {
-    const { colours } = this.shades, { font, size, x, y, isMiddle } = standOf(item), isFull = isClosed(item.kind) && item.kind !== 'n' && (item.flag & 3) === 2;
+    const { colours } = this.shades, { font, size, x, y, isMiddle } = standOf(item), { isNote, isLink } = KINDS[item.kind];
     g.font = fontOf(font, size);
-    g.fillStyle = item.kind === 'n' ? colours.ink : isFull ? colours.paper : colour;
+    g.fillStyle = isNote ? colours.ink : fillOf(item) === 2 ? colours.paper : colour;
     g.textAlign = isMiddle ? 'center' : 'left';
     g.textBaseline = 'middle';
     linesOf(item).forEach((line, i) => {
       g.direction = isFromRight(line) ? 'rtl' : 'ltr';
       g.fillText(line, x, y + (i + 0.5) * size * LEADING);
     });
-    if (item.kind !== 'k') return;
+    if (!isLink) return;
     const { x0, x1, y1 } = boxOf(item);
     g.fillRect(x0, y1 - size * 0.16, x1 - x0, 5);
   }
@@ -164,14 +165,15 @@ function strokeAll(g, item) {
   g.setLineDash([]);
 }
 
+/** @type {WeakMap<Item, Path2D>} */
+const outlines = new WeakMap();
+
 /** A stroke that is wider where the pen was pressed more, and nowhere thinner than told.
  * @type {(g: CanvasRenderingContext2D, item: Item, least: number) => void} */
 function paintPressed(g, item, least) {
-  for (const { from, to, wide } of piecesOf(item)) {
-    g.lineWidth = Math.max(wide, least);
-    g.beginPath();
-    g.moveTo(from.x, from.y);
-    g.lineTo(to.x, to.y);
-    g.stroke();
-  }
+  const path = outlines.get(item) ?? new Path2D(outlineOf(item));
+  outlines.set(item, path);
+  g.fill(path);
+  g.lineWidth = least;
+  strokeAll(g, item);
 }

@@ -1,6 +1,6 @@
 /** The paths of items, in units, as SVG writes them: a canvas makes a path of its own of each. */
-import { isClosed, isStroke } from './ink.js';
-import { along, bend } from './inkcurves.js';
+import { bend } from './inkcurves.js';
+import { KINDS, isClosed, isLine, isStroke } from './inkkinds.js';
 import { WIDTHS } from './inksigns.js';
 
 /** @typedef {import('./ink.js').Point} Point */
@@ -11,12 +11,6 @@ const CUT = 200;
 
 /** Heads of arrows: how long at least, by how many widths, and how far to each side, in radians. */
 const HEAD = { least: 70, widths: 4.2, side: 0.48 };
-
-/** The corners of frames and of notes, in units. */
-const ROUND = { frame: 64, note: 24 };
-
-/** Pieces of a step whose width changes by pressure. */
-const PIECES = 6;
 
 /** A number of a path, to a tenth of a unit.
  * @type {(n: number) => number} */
@@ -30,8 +24,8 @@ const part = (word, ...points) => word + points.map(({ x, y }) => `${tenth(x)} $
 export function wayOf(item) {
   const { kind, points } = item;
   if (isStroke(kind)) return strokes(points);
-  if (kind === 'line' && points.length > 2) return cut(points);
-  return kind === 'l' || kind === 'line' ? lined(item) : closed(item);
+  if (!isLine(item)) return closed(item);
+  return KINDS[kind].isPlain && points.length > 2 ? cut(points) : lined(item);
 }
 
 /** @type {(points: Point[]) => string} */
@@ -62,7 +56,7 @@ function cut(points) {
 function lined({ kind, points: [a, b, over], width, flag }) {
   const way = over && { x: 2 * over.x - (a.x + b.x) / 2, y: 2 * over.y - (a.y + b.y) / 2 }, isDot = a.x === b.x && a.y === b.y;
   const line = part('M', a) + (way ? part('Q', way, b) : part('L', isDot ? { x: b.x + 0.5, y: b.y } : b));
-  const atEnd = flag & 1 ? head(b, way ?? a, width) : '', atStart = kind === 'l' && flag & 2 ? head(a, way ?? b, width) : '';
+  const atEnd = flag & 1 ? head(b, way ?? a, width) : '', atStart = !KINDS[kind].isPlain && flag & 2 ? head(a, way ?? b, width) : '';
   return line + atEnd + atStart;
 }
 
@@ -75,31 +69,13 @@ function head(tip, from, width) {
 
 /** A frame, an ellipse, a diamond or a note.
  * @type {(item: Item) => string} */
-function closed({ kind, points: [a, b] }) {
-  const [x, y, w, h] = [Math.min(a.x, b.x), Math.min(a.y, b.y), Math.abs(a.x - b.x), Math.abs(a.y - b.y)], [mx, my] = [x + w / 2, y + h / 2];
-  if (kind === 'o') return `M${x} ${my}A${w / 2} ${h / 2} 0 1 1 ${x + w} ${my}A${w / 2} ${h / 2} 0 1 1 ${x} ${my}Z`;
-  if (kind === 'd') return `M${mx} ${y}L${x + w} ${my}L${mx} ${y + h}L${x} ${my}Z`;
-  const r = Math.min(kind === 'n' ? ROUND.note : kind === 'frame' ? 0 : ROUND.frame, w / 2, h / 2);
-  return `M${x + r} ${y}h${w - 2 * r}a${r} ${r} 0 0 1 ${r} ${r}v${h - 2 * r}a${r} ${r} 0 0 1 ${-r} ${r}h${2 * r - w}a${r} ${r} 0 0 1 ${-r} ${-r}v${2 * r - h}a${r} ${r} 0 0 1 ${r} ${-r}Z`;
-}
-
-/** The straight pieces of a stroke whose width changes by pressure, each as wide as the pen is pressed at its end.
- * @type {(item: Item) => { from: Point, to: Point, wide: number }[]} */
-export function piecesOf({ points, width }) {
-  const wideAt = (/** @type {Point} */ { pressure = 0.5 }) => WIDTHS[width] * (0.4 + 1.2 * pressure);
-  return points.flatMap((a, i) => {
-    const b = points[i + 1];
-    if (!b || b.up) return i === 0 || a.up ? [{ from: a, to: { x: a.x + 0.5, y: a.y }, wide: wideAt(a) }] : [];
-    const [c, d] = bend(points, i), at = Array.from({ length: PIECES + 1 }, (_, k) => along(a, c, d, b, k / PIECES));
-    return at.slice(1).map((to, k) => ({ from: at[k], to, wide: wideAt(a) + ((wideAt(b) - wideAt(a)) * (k + 1)) / PIECES }));
-  });
-}
+const closed = ({ kind, points: [a, b] }) => KINDS[kind].way?.(Math.min(a.x, b.x), Math.min(a.y, b.y), Math.abs(a.x - b.x), Math.abs(a.y - b.y)) ?? '';
 
 /** Of how many units the dashes and the gaps of a line are, or none.
  * @type {(item: Item) => number[]} */
 export function dashesOf({ kind, flag, width, points: [a, b], drawings: [drawing] }) {
-  if (kind === 'line') return drawing.op === 'line' && drawing.glyph === '.' ? [1, 40] : [];
-  const isDashed = Boolean(flag & 4) && (isClosed(kind) ? kind !== 'n' : kind === 'l' && Math.hypot(a.x - b.x, a.y - b.y) < 60_000);
+  if (KINDS[kind].isPlain) return drawing.op === 'line' && drawing.glyph === '.' ? [1, 40] : [];
+  const isDashed = Boolean(flag & 4) && KINDS[kind].looks?.includes('dashed') && (isClosed(kind) || Math.hypot(a.x - b.x, a.y - b.y) < 60_000);
   return isDashed ? [WIDTHS[width] * 3.2, WIDTHS[width] * 2.6] : [];
 }
 

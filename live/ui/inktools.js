@@ -70,8 +70,8 @@ const closer = (kind) => ({
  * @type {(isBroad: boolean) => Tool} */
 const writer = (isBroad) => ({
   begin: ({ points: [at] }, hand, { isPressed }) => {
-    const { colour, width, bright, broad } = hand.parts.style.look;
-    hand.parts.pen.begin(isBroad ? { kind: 'h', colour: bright, width: broad } : { kind: isPressed ? 'v' : 's', colour, width }, at);
+    const { colour, width, bright, broad, isEven } = hand.parts.style.look, isLively = isPressed || (!isEven && 'time' in at);
+    hand.parts.pen.begin(isBroad ? { kind: 'h', colour: bright, width: broad } : { kind: isLively ? 'v' : 's', colour, width }, at);
   },
   move: (_, hand, points) => hand.parts.pen.move(points),
   finish: (_, hand) => hand.parts.pen.end(),

@@ -1,13 +1,15 @@
 /** Ink as texts: strokes, shapes and letters, the same ink elsewhere, and where a text stands (docs/INK.md, "Writing"). */
-import { FLAGS, GOING_ON, isClosed, isStroke, readInk } from './ink.js';
-import { along, bend, off } from './inkcurves.js';
+import { FLAGS, GOING_ON, readInk } from './ink.js';
+import { along, bend, isCorner, off } from './inkcurves.js';
+import { KINDS, isClosed, isStroke } from './inkkinds.js';
 import { inTexts, isAddress, writeLetters } from './inkletters.js';
 import { CELL_WIDE, FIRST_ROW, FULL_PRESSURE, LIFT_STILL, MOST_SIGNS, PAGE_HIGH, PAGE_WIDE, REACH, TILDE, isOnPage, settled, spelled, valueFor, wayOf } from './inksigns.js';
 
 /** @typedef {import('./ink.js').Point} Point */
 /** @typedef {import('./ink.js').Ink} Ink */
-/** How a stroke is drawn, and the finest scale that it needs. Strokes of one text have one nib.
- * @typedef {{ kind: string, colour: number, width: number, scale: number }} Nib */
+/** How a stroke is drawn, the finest scale that it needs, and whether its points may lie elsewhere on the curve through them: those of a hand may.
+ * Strokes of one text have one nib.
+ * @typedef {{ kind: string, colour: number, width: number, scale: number, isFree?: boolean }} Nib */
 /** How far a stroke is written: the number of the last point, how much of the way from it to the next, and where that is.
  * @typedef {{ upTo: number, part: number, end: Point }} Place */
 /** A text of a stroke, with how far its points are off at most.
@@ -22,6 +24,9 @@ const COARSE = 2;
 
 /** Units of a scale from one place to the next where a curve is looked at. */
 const DENSE = 4;
+
+/** Of the way to a point so much, the last part of it, is looked through for a place that a step meets better. */
+const SLIDE = 0.35;
 
 /** @type {(kind: string, look: { colour: number, width: number }, flag: number, goesOn: boolean, at: Point) => string} */
 const head = (kind, { colour, width }, flag, goesOn, at) => TILDE + kind + spelled(9 * colour + width, 1) + (goesOn ? GOING_ON : FLAGS)[flag] + spelled(at.x, 3) + spelled(at.y, 3);
@@ -51,7 +56,7 @@ const nearestOn = (curve, point) => curve.reduce((best, at, k) => (gap(at, point
 /** A text that is filled with a stroke in one scale, from a place on. */
 class Filling {
   /** @param {Nib} look @param {number} scale @param {Point[]} points @param {Place} from @param {boolean} goesOn */
-  constructor({ kind, colour, width }, scale, points, { upTo, part, end }, goesOn) {
+  constructor({ kind, colour, width, isFree = false }, scale, points, { upTo, part, end }, goesOn) {
     // a text that goes on from a lift begins where the pen is put down, if that is another point
     const next = points[upTo + 1], isPutDown = goesOn && next?.up && gap(end, next) > 0;
     this.points = points;
@@ -64,7 +69,8 @@ class Filling {
      * @type {Point[]} */
     this.curve = [];
     this.place = 0;
-    this.isPressed = kind === 'v';
+    this.isPressed = Boolean(KINDS[kind].isPressed);
+    this.isFree = isFree;
     this.unit = 2 ** scale;
     this.text = head(kind, { colour, width }, scale, goesOn, this.end) + this.pressed(this.end);
   }
@@ -74,18 +80,34 @@ class Filling {
    * @param {number} near @param {number} fine @returns {Written} */
   fill(near, fine) {
     for (let next = this.points[this.upTo + 1], hasRoom = true; next && hasRoom; next = this.points[this.upTo + 1]) {
-      const way = next.up ? this.liftTo(next) : this.stepTo(next), stride = way && !next.up && gap(way.end, next) > near ? this.stride(fine) : null;
+      const step = next.up ? null : this.slid(fine), way = step ?? this.liftTo(next), stride = step && step.aside > near ? this.stride(fine) : null;
       hasRoom = stride ? this.goTo(stride) : way !== null && this.pass(way);
     }
     const { text, upTo, part, end, off: worst } = this;
     return { text, upTo, part, end, off: worst };
   }
 
-  /** Comes to the next point, if there is room.
-   * @param {Way} way */
+  /** A step to the next point, or to a place on the curve a little before it, if steps end nearer to the curve there, and how far off it ends. Corners and
+   * ends stay where they are.
+   * @param {number} fine @returns {Way & { aside: number }} */
+  slid(fine) {
+    const { points, upTo, part, unit } = this, [from, to, after] = points.slice(upTo, upTo + 3), way = this.stepTo(to);
+    let best = { ...way, aside: gap(way.end, to) };
+    if (!this.isFree || best.aside <= fine || !after || after.up || isCorner(from, to, after)) return best;
+    const [b, c] = bend(points, upTo), most = SLIDE * (1 - part), many = Math.ceil((gap(from, to) * most) / unit), { pressure: first = 0.5 } = from, { pressure: last = 0.5 } = to;
+    const at = (/** @type {number} */ k) => along(from, b, c, to, 1 - (most * k) / many);
+    for (let k = 0; k <= many && best.aside > fine; k += 1) {
+      const place = settled(at(k)), next = this.stepTo({ ...place, pressure: last + ((first - last) * most * k) / many }), aside = off(next.end, at(k + 1), k ? at(k - 1) : place);
+      if (aside < best.aside) best = { ...next, aside };
+    }
+    return best;
+  }
+
+  /** Comes to the next point, or near to it, if there is room.
+   * @param {Way & { aside?: number }} way */
   pass(way) {
     if (!this.add(way)) return false;
-    this.off = Math.max(this.off, gap(this.end, this.points[this.upTo + 1]));
+    this.off = Math.max(this.off, way.aside ?? gap(this.end, this.points[this.upTo + 1]));
     [this.upTo, this.part, this.curve] = [this.upTo + 1, 0, []];
     return true;
   }
@@ -99,17 +121,21 @@ class Filling {
     return true;
   }
 
-  /** The farthest place on the curve to the next point to which a step goes that ends nowhere far from the curve, and how far that is. Null
-   * if there is none before the point.
+  /** The farthest place on the curve to the next point to which a step goes that ends nowhere far from the curve, and how far that is: of a hand's curve
+   * no farther than several steps to the point, as long as one another, would go. Null if there is none before the point.
    * @param {number} fine @returns {{ place: number, aside: number } | null} */
   stride(fine) {
     if (!this.curve.length) {
       this.curve = curved(this.points, this.upTo, this.unit);
       this.place = this.part ? nearestOn(this.curve, this.end) : 0;
     }
-    const { curve } = this;
-    let best = null;
-    for (let k = this.place + 1; k < curve.length - 1 && gap(this.end, curve[k]) <= REACH * this.unit; k += 1) {
+    const { curve, place, unit } = this, last = curve.length - 1, isNear = (/** @type {number} */ k) => gap(this.end, curve[k]) <= REACH * unit;
+    let [best, far] = [/** @type {{ place: number, aside: number } | null} */ (null), place];
+    while (far < last - 1 && isNear(far + 1)) far += 1;
+    // a step that ended before the last point has that way to go first
+    if (far === place && place < last && !isNear(place + 1) && gap(this.end, curve[place]) > unit) return { place, aside: 0 };
+    if (this.isFree && far > place) far = Math.min(far, place + Math.ceil((last - place) / Math.max(2, Math.ceil((last - place) / (far - place)))));
+    for (let k = place + 1; k <= far; k += 1) {
       const { end } = this.stepTo(curve[k]), aside = Math.min(off(end, curve[k - 1], curve[k]), off(end, curve[k], curve[k + 1]));
       if (!best || aside <= Math.max(best.aside, fine)) best = { place: k, aside };
     }
@@ -220,11 +246,11 @@ export const recoloured = (text, colour) => restyled(text, { colour });
 export function restyled(text, look) {
   const ink = readInk(text);
   if (!ink) return null;
-  const { kind, colour = 0, width, flag, goesOn } = ink, isLine = kind === 'l' || (isClosed(kind) && kind !== 'n');
+  const { kind, colour = 0, width, flag, goesOn } = ink, { width: own, looks = [] } = KINDS[kind];
   const dashes = look.isDashed === undefined ? flag & 4 : look.isDashed ? 4 : 0, heads = look.hasTwo === undefined || !(flag & 1) ? flag & 3 : look.hasTwo ? 3 : 1;
   const fill = isClosed(kind) ? look.fill ?? flag & 3 : heads;
-  const other = { colour: look.colour ?? look.bright ?? colour, width: kind === 't' ? look.size ?? width : kind === 'h' ? look.broad ?? width : kind === 'n' || kind === 'k' ? width : look.width ?? width };
-  const sign = isLine ? fill + dashes : kind === 't' ? look.font ?? flag : flag;
+  const other = { colour: look.colour ?? look.bright ?? colour, width: own ? look[own] ?? width : width };
+  const sign = looks.includes('dashed') ? fill + dashes : own === 'size' ? look.font ?? flag : flag;
   return text.slice(0, 2) + spelled(9 * other.colour + other.width, 1) + (goesOn ? GOING_ON : FLAGS)[sign] + text.slice(4);
 }
 

@@ -1,6 +1,7 @@
 /** The keyboard: a cursor on the sheet, and a key for each tool. */
 import { SIDE, clamp } from './cells.js';
 import { $, say } from './dom.js';
+import { wording } from './language.js';
 
 /** @typedef {import('./hand.js').Hand} Hand */
 
@@ -108,6 +109,6 @@ export class Keys {
     hand.cursor.on = true;
     if (hand.gesture) return hand.finish();
     hand.begin({ x: hand.cursor.x, y: hand.cursor.y }, undefined, { isShifted: isMore });
-    return hand.toolOf(hand.tool).isShort ? hand.finish() : say(`${hand.tool} begun`);
+    return hand.toolOf(hand.tool).isShort ? hand.finish() : say(wording('toolBegun', { tool: wording(/** @type {import('./language.js').Key} */ (hand.tool)) }));
   }
 }

@@ -1,8 +1,10 @@
 /** What is done to a page as a whole: it is moved among the others, copied, deleted and brought back. */
+import { $ } from './dom.js';
 import { colourFor } from './eraser.js';
 import { rowsOf } from './history.js';
 import { itemsOf } from './inkitems.js';
 import { recoloured } from './inkwriting.js';
+import { wording } from './language.js';
 import { isGone } from './leaves.js';
 import { NOTES } from './notes.js';
 
@@ -13,6 +15,22 @@ export class Leafing {
   /** @param {import('./whiteboard.js').Whiteboard} board */
   constructor(board) {
     this.board = board;
+    board.session.on('notes', () => this.showPaper());
+    board.session.on('board', (_, { isTurned }) => isTurned && this.showPaper());
+    $('ground').addEventListener('change', () => board.notes.paper(board.session.board.page, $('ground').value));
+  }
+
+  /** Shows on what paper the page in view is. */
+  showPaper() {
+    const { notes, session, painter } = this.board, paper = notes.paperOf(session.board.page);
+    if ($('ground') !== document.activeElement) $('ground').value = paper;
+    painter.soon();
+  }
+
+  /** Begins a new page, on the paper of the one in view. */
+  async begin() {
+    const { session, notes } = this.board, paper = notes.paperOf(session.board.page), page = await session.goToPage(null);
+    if (page && paper !== 'dots') notes.paper(page, paper);
   }
 
   /** What a page shows, which need not be in view.
@@ -39,7 +57,8 @@ export class Leafing {
     itemsOf(from.drawops).forEach((item) => item.drawings.forEach((drawing) => step.draw(this.copied(drawing, colourFor(item, this.board.hand)))));
     await step.names();
     notes.place(copy.page, page);
-    if (title) notes.entitle(copy.page, `${title} (copy)`);
+    if (title) notes.entitle(copy.page, wording('copyOf', { title }));
+    if (notes.told.papers.has(page)) notes.paper(copy.page, notes.paperOf(page));
   }
 
   /** @param {Shape} shape @param {number} colour @returns {Shape} */
@@ -52,7 +71,7 @@ export class Leafing {
    * @param {string} page */
   async remove(page) {
     const { session, steps, notes } = this.board, found = await this.read(page), leaves = session.leaves(), at = leaves.findIndex((leaf) => leaf.page === page);
-    if (!found || !confirm(`Delete ${session.titleOf(page)} for everyone? It takes ${found.drawops.length + 1} drawings of room. It can be brought back under “All pages”.`)) return;
+    if (!found || !confirm(wording('askDelete', { page: session.titleOf(page), n: found.drawops.length + 1 }))) return;
     const step = steps.begin(page);
     found.drawops.forEach((drawing) => step.hide(drawing));
     if (page === session.board.page) session.goToPage((leaves[at + 1] ?? leaves[at - 1])?.page ?? null);

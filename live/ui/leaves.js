@@ -1,5 +1,6 @@
 /** The pages that one turns through, in the order that all members agree on: by the time of the first drawing, as the member tells them, and then
  * as people moved them. */
+import { wording } from './language.js';
 import { NOTES } from './notes.js';
 
 /** @typedef {import('./types.js').Leaf} Leaf */
@@ -28,5 +29,5 @@ export const isGone = ({ page, last = '0' }, gone) => Number(last) <= Number(gon
  * @type {(leaves: Leaf[], page: string) => string} */
 export function calledBy(leaves, page) {
   const at = leaves.findIndex((leaf) => leaf.page === page), isDrawn = at >= 0 && leaves[at].drawn > 0;
-  return isDrawn || !leaves.some(({ drawn }) => drawn > 0) ? `Page ${Math.max(0, at) + 1}` : 'New page';
+  return isDrawn || !leaves.some(({ drawn }) => drawn > 0) ? wording('pageNumber', { number: Math.max(0, at) + 1 }) : wording('newPage');
 }

@@ -1,6 +1,7 @@
 /** The parts of the panel: who is there, how the network is, and how it is worsened. */
 import { $, make } from './dom.js';
 import { renew, write } from './keyed.js';
+import { retold, wording } from './language.js';
 import { initialsOf } from './notes.js';
 
 /** @typedef {import('./whiteboard.js').Whiteboard} Whiteboard */
@@ -9,10 +10,14 @@ import { initialsOf } from './notes.js';
 /** Members and warnings that are listed. */
 const MOST_MEMBERS = 64, MOST_WARNINGS = 3;
 
+/** What is counted beside datagrams, if there is any.
+ * @type {[string, import('./language.js').Key][]} */
+const MORE = [['lost', 'lostOnPurpose'], ['twice', 'twiceOnPurpose'], ['refused', 'manyRefused'], ['dropped', 'manyDropped'], ['foreign', 'manyForeign']];
+
 /** @param {number} seconds */
 export function ago(seconds) {
-  if (seconds < 2) return 'now';
-  return seconds < 120 ? `${Math.floor(seconds)} s ago` : `${Math.floor(seconds / 60)} min ago`;
+  if (seconds < 2) return wording('now');
+  return seconds < 120 ? wording('secondsAgo', { n: Math.floor(seconds) }) : wording('minutesAgo', { n: Math.floor(seconds / 60) });
 }
 
 /** @param {Whiteboard} board */
@@ -21,9 +26,10 @@ export function showMembers({ session, painter, others, faces, follow }) {
    * @param {Other} other @param {string} heard */
   const whereOf = ({ member }, heard) => {
     const page = others.pageOf(member), follows = others.points.get(member)?.beside.follows ?? null;
-    if (member === session.hello.me) return 'you';
-    if (follows !== null) return `follows ${session.who(follows)}`;
-    return page ? `on ${session.titleOf(page)}` : heard === 'now' ? 'here' : `heard ${heard}`;
+    if (member === session.hello.me) return wording('you');
+    if (member === session.hello.keeper) return wording('keepsBoard');
+    if (follows !== null) return follows === session.hello.me ? wording('followsYou') : wording('follows', { name: session.nameOf(follows) });
+    return page ? wording('onPage', { page: session.titleOf(page) }) : heard === wording('now') ? wording('here') : wording('heard', { ago: heard });
   };
   /** @param {Other} other */
   const row = ({ member }) => {
@@ -37,19 +43,19 @@ export function showMembers({ session, painter, others, faces, follow }) {
   const fill = (line, other) => {
     const { member, delay, heard } = other, isMe = member === session.hello.me, [mark, words, button] = /** @type {any} */ (line.children);
     const seen = heard == null ? '' : ago(heard + (performance.now() - faces.heardAt) / 1000), isFollowed = follow.leader === member;
-    line.title = `member ${member}${isMe || delay == null ? '' : `, ${delay < 10 ? delay.toFixed(1) : Math.round(delay)} ms away, heard ${seen}`}`;
-    write(mark, initialsOf(session.called.get(member), member));
+    line.title = isMe || delay == null ? wording('memberTip', { member }) : wording('memberAway', { member, delay: delay < 10 ? delay.toFixed(1) : Math.round(delay), ago: seen });
+    write(mark, member === session.hello.keeper ? '' : initialsOf(session.called.get(member), member));
     mark.style.setProperty('--c', painter.tintOf(member));
     write(words.firstChild, session.nameOf(member));
     write(words.lastChild, whereOf(other, seen));
-    write(button, isFollowed ? 'Following' : 'Follow');
+    write(button, wording(isFollowed ? 'isFollowed' : 'follow'));
     button.setAttribute('aria-pressed', String(isFollowed));
-    button.hidden = isMe;
+    button.hidden = isMe || member === session.hello.keeper;
   };
   const show = () => {
-    const { members } = faces;
-    renew($('members'), members.slice(0, MOST_MEMBERS), ({ member }) => member, row, fill);
-    write($('more-members'), members.length > MOST_MEMBERS ? `and ${members.length - MOST_MEMBERS} more` : '');
+    const { members, keeper } = faces;
+    renew($('members'), [...members.slice(0, MOST_MEMBERS), ...keeper ? [keeper] : []], ({ member }) => member, row, fill);
+    write($('more-members'), members.length > MOST_MEMBERS ? wording('andMore', { n: members.length - MOST_MEMBERS }) : '');
     $('call').hidden = members.length < 2;
   };
   for (const name of ['members', 'notes', 'followed', 'presence']) session.on(name, show);
@@ -75,13 +81,12 @@ function setHealth(kind, phrase) {
  * @param {Whiteboard} board */
 export function showHealth({ session }) {
   session.on('health', ({ phrase, missing, warnings, counts }) => {
-    const more = [['lost', 'lost on purpose'], ['twice', 'twice on purpose'], ['refused', 'refused'], ['dropped', 'dropped'], ['foreign', 'sealed by no key of ours']]
-      .map(([name, what]) => (counts[name] ? `, ${counts[name]} ${what}` : '')).join('');
-    setHealth(missing ? 'missing' : '', session.hello.ready ? phrase : 'listening before it draws');
-    $('counts').textContent = `sent ${counts.requests} requests and ${counts.repairs} repairs; ${counts.in} in, ${counts.out} out${more}`;
-    $('warnings').replaceChildren(...warnings.slice(-MOST_WARNINGS).map((/** @type {string} */ warning) => make('li', warning)));
+    const more = MORE.map(([name, key]) => (counts[name] ? wording(key, { n: counts[name] }) : '')).join('');
+    setHealth(missing ? 'missing' : '', session.hello.ready ? retold(phrase) : wording('toldListening'));
+    $('counts').textContent = wording('counts', { ...counts, more });
+    $('warnings').replaceChildren(...warnings.slice(-MOST_WARNINGS).map((/** @type {string} */ warning) => make('li', retold(warning))));
   });
-  session.on('link', (link) => link === 'open' || setHealth('lost', link === 'gone' ? 'wb-live has another address now' : 'wb-live does not answer'));
+  session.on('link', (link) => link === 'open' || setHealth('lost', wording(link === 'gone' ? 'toldMoved' : 'toldNoAnswer')));
   session.on('hello', ({ twin }) => { $('twin').hidden = !twin; });
   $('renumber').addEventListener('click', () => session.member.renumber?.());
 }

@@ -2,15 +2,19 @@
  * repaired and recorded as every other. */
 import { SIDE, spell } from './cells.js';
 import { inTexts, readLetters, writeLetters } from './inkletters.js';
-import { TILDE } from './inksigns.js';
+import { MOST_SIGNS, TILDE } from './inksigns.js';
+import { retold, wording } from './language.js';
 
 /** @typedef {import('./types.js').Drawing} Drawing */
 /** What was said, by whom and when.
  * @typedef {{ source: number, seq: number, time: string, text: string }} Said */
+/** The last text that a member said: its signs, the letters so far, and what was said with it.
+ * @typedef {{ seq: number, time: string, signs: number, letters: string, entry: Said }} Piece */
 /** The names and the colours of members, the titles of pages, which page was put behind which one, in order, and which were deleted; what was
- * said, the first free row, and the session in which the board goes on, with who said so.
+ * said, the first free row, the session in which the board goes on, with who said so, and on what pages are.
  * @typedef {{ names: Map<number, string>, colours: Map<number, number>, titles: Map<string, string>, places: [string, string][], gone: Map<string, Drawing[]>,
- *   said: Said[], row: number, next: { session: string, source: number } | null }} Noted */
+ *   said: Said[], row: number, next: { session: string, source: number } | null, papers: Map<string, Paper> }} Noted */
+/** @typedef {'dots' | 'squares' | 'lines' | 'none'} Paper */
 
 /** The page that is reserved. */
 export const NOTES = '0/0';
@@ -27,6 +31,9 @@ export const NEXT = /^[A-Za-z0-9._-]{1,40}$/;
 /** The first word of a text of this page, whether what follows is in signs, as the letters of ink are, and what follows. */
 const WORD = /^([^\s~]+)(~?) ?(.*)$/;
 
+/** Signs that a text of the chat lacks at most if it goes on in the next one, and microseconds until that. */
+const FULL = MOST_SIGNS - 3, SOON = 5_000_000;
+
 /** What is seen by nobody, or would turn the order of the letters about it; two of these join letters. */
 const UNSEEN = /[^\P{C}\u200c\u200d]/gu;
 
@@ -39,12 +46,14 @@ export const shownOf = (letters) => letters.normalize('NFC').replace(/\s+/g, ' '
 const firstOf = (letters, many) => [...letters].slice(0, many).join('');
 
 /** What the texts of the reserved page say, the later ones over the earlier: a member names itself alone and chooses its own colour; anyone
- * entitles, moves and deletes a page, and says where the board goes on.
+ * entitles, moves and deletes a page, says on what paper it is, and where the board goes on.
  * @param {Drawing[]} drawops in the order of painting
  * @returns {Noted} */
 export function readNotes(drawops) {
   /** @type {Noted} */
-  const told = { names: new Map(), colours: new Map(), titles: new Map(), places: [], gone: new Map(), said: [], row: 0, next: null };
+  const told = { names: new Map(), colours: new Map(), titles: new Map(), places: [], gone: new Map(), said: [], row: 0, next: null, papers: new Map() };
+  /** @type {Map<number, Piece>} */
+  const last = new Map();
   for (const drawing of drawops) {
     if (drawing.op !== 'text') continue;
     const { source, seq, time, text } = drawing, [, word = '', tilde = '', rest = ''] = WORD.exec(text) ?? [], [, page, title] = /^(\d+\/\d+) ?(.*)$/.exec(rest) ?? [];
@@ -53,7 +62,7 @@ export function readNotes(drawops) {
     if (letters === null) continue;
     if (word === 'name') told.names.set(source, firstOf(shown, MOST_NAME));
     if (word === 'title' && page) told.titles.set(page, firstOf(shown, MOST_TITLE));
-    if (word === 'say' && shown) told.said.push({ source, seq, time, text: shown });
+    if (word === 'say') takeSaid(told.said, last, drawing, letters);
     if (tilde) continue;
     if (word === 'colour' && /^[0-8]$/.test(rest)) told.colours.set(source, Number(rest));
     if (word === 'colour' && rest === '') told.colours.delete(source);
@@ -64,9 +73,21 @@ export function readNotes(drawops) {
   return told;
 }
 
-/** Where a page is put, and that one is deleted.
+/** Takes what was said. A text that is full goes on in the next of its member.
+ * @type {(said: Said[], last: Map<number, Piece>, drawing: Drawing & { op: 'text' }, letters: string) => void} */
+function takeSaid(said, last, { source, seq, time, text }, letters) {
+  const before = last.get(source), goesOn = before && before.seq === seq - 1 && before.signs >= FULL && Number(time) - Number(before.time) < SOON;
+  const all = goesOn ? before.letters + letters : letters, entry = goesOn ? before.entry : { source, seq, time, text: '' };
+  entry.text = shownOf(all);
+  if (!said.includes(entry) && entry.text) said.push(entry);
+  last.set(source, { seq, time, signs: text.length, letters: all, entry });
+}
+
+/** The place of a page, that one is deleted, and on what paper it is.
  * @type {(told: Noted, word: string, rest: string, drawing: Drawing) => void} */
-function readOrder({ places, gone }, word, rest, drawing) {
+function readOrder({ places, gone, papers }, word, rest, drawing) {
+  const [, on, paper] = /^(\d+\/\d+) (dots|squares|lines|none)$/.exec(rest) ?? [];
+  if (word === 'paper' && on) papers.set(on, /** @type {Paper} */ (paper));
   const [, page, after] = /^(\d+\/\d+)(?: (\d+\/\d+))?$/.exec(rest) ?? [];
   if (word === 'place' && page && after) places.push([page, after]);
   if (word === 'gone' && page && !after) gone.set(page, [drawing, ...gone.get(page) ?? []]);
@@ -144,6 +165,18 @@ export class Notes {
     return this.write(`place ${page} ${after}`);
   }
 
+  /** On what paper a page is.
+   * @param {string} page @returns {Paper} */
+  paperOf(page) {
+    return this.told.papers.get(page) ?? 'dots';
+  }
+
+  /** Puts a page on other paper.
+   * @param {string} page @param {Paper} paper */
+  paper(page, paper) {
+    return this.write(`paper ${page} ${paper}`);
+  }
+
   /** Says that a page is deleted: it is listed no more until something is drawn on it.
    * @param {string} page */
   remove(page) {
@@ -169,7 +202,7 @@ export class Notes {
     const row = Math.min(this.told.row, SIDE - 1);
     this.told.row += 1;
     const answer = await this.session.member.draw(NOTES, spell({ op: 'text', x: 0, y: row, text }));
-    if (!answer.ok) this.session.emit('fault', `Not told: ${answer.fault}`);
+    if (!answer.ok) this.session.emit('fault', wording('notTold', { why: retold(answer.fault) }));
     return answer.ok;
   }
 }

@@ -2,6 +2,7 @@
 import { $, make } from './dom.js';
 import { laidOut, runsOf } from './exports.js';
 import { rowsOf } from './history.js';
+import { wording } from './language.js';
 
 /** @typedef {import('./types.js').Board} Board */
 
@@ -47,20 +48,20 @@ export class Overview {
       $('overview').close();
       session.goToPage(page);
     });
-    /** @type {[string, boolean, () => any][]} */
-    const acts = [['Earlier', at > 0, () => leafing.move(page, -1)], ['Later', at < many - 1, () => leafing.move(page, 1)],
-      ['Copy', true, () => { $('overview').close(); leafing.copy(page); }], ['Delete', session.mayClear, () => leafing.remove(page)]];
-    row.append(...acts.map(([name, may, act]) => deed(name, `${name}: ${title}`, may, act)));
+    /** @type {[import('./language.js').Key, boolean, () => any][]} */
+    const acts = [['earlier', at > 0, () => leafing.move(page, -1)], ['later', at < many - 1, () => leafing.move(page, 1)],
+      ['copy', true, () => { $('overview').close(); leafing.copy(page); }], ['delete', session.mayClear, () => leafing.remove(page)]];
+    row.append(...acts.map(([name, may, act]) => deed(name, title, may, act)));
     return framed(page, button, row);
   }
 
   /** A page that was deleted, as it was.
    * @param {Board} board */
   removed(board) {
-    const { session, leafing } = this.board, [row] = rowsOf(board), title = session.titles.get(board.page) ?? 'A page';
-    const button = this.picture({ ...board, drawops: [...board.drawops, ...row?.drawings ?? []] }, `${title}, deleted${row ? ` by ${session.who(row.by)}` : ''}`);
+    const { session, leafing } = this.board, [row] = rowsOf(board), title = session.titles.get(board.page) ?? wording('aPage'), isMine = row?.by === session.hello.me;
+    const button = this.picture({ ...board, drawops: [...board.drawops, ...row?.drawings ?? []] }, row ? wording(isMine ? 'pageDeletedByYou' : 'pageDeletedBy', { title, who: session.nameOf(row.by) }) : wording('pageDeleted', { title }));
     button.disabled = true;
-    const back = deed('Bring back', `Bring back: ${title}`, true, () => { $('overview').close(); leafing.bringBack(board.page); }), keys = make('div', '', 'keys');
+    const back = deed('bringBack', title, true, () => { $('overview').close(); leafing.bringBack(board.page); }), keys = make('div', '', 'keys');
     keys.append(back);
     const card = framed(board.page, button, keys);
     card.classList.add('gone');
@@ -101,10 +102,10 @@ function framed(page, ...parts) {
   return frame;
 }
 
-/** @type {(text: string, name: string, may: boolean, act: () => any) => HTMLElement} */
-function deed(text, name, may, act) {
-  const button = Object.assign(make('button', text), { type: 'button', disabled: !may });
-  button.setAttribute('aria-label', name);
+/** @type {(name: import('./language.js').Key, title: string, may: boolean, act: () => any) => HTMLElement} */
+function deed(name, title, may, act) {
+  const button = Object.assign(make('button', wording(name)), { type: 'button', disabled: !may });
+  button.setAttribute('aria-label', wording('deedOf', { deed: wording(name), title }));
   button.addEventListener('click', act);
   return button;
 }

@@ -1,5 +1,6 @@
 /** The pages of the session, and how one turns to another. */
 import { $, make } from './dom.js';
+import { wording } from './language.js';
 
 /** Pages that are listed. */
 const MOST = 500;
@@ -8,7 +9,7 @@ const MOST = 500;
 export function showPages(session) {
   const show = () => {
     const { board } = session, leaves = session.leaves(), at = leaves.findIndex(({ page }) => page === board.page);
-    const options = leaves.slice(0, MOST).map(({ page, drawn }) => Object.assign(make('option', session.titleOf(page)), { value: page, title: `${page}, ${drawn} drawings` }));
+    const options = leaves.slice(0, MOST).map(({ page, drawn }) => Object.assign(make('option', session.titleOf(page)), { value: page, title: wording('pageHas', { page, n: drawn }) }));
     $('pages').replaceChildren(...options);
     $('pages').value = board.page;
     $('back').disabled = at <= 0;

@@ -1,21 +1,19 @@
 /** The canvas of the sheet: its colours, and a frame for each change, which the look in view paints. */
 import { CellLayer } from './celllayer.js';
 import { DAY, NIGHT, ON_WHITE, colourOf } from './colours.js';
+import { paintGround } from './ground.js';
 import { InkGhosts } from './inkghosts.js';
 import { InkLayer } from './inklayer.js';
 import { CELL_WIDE } from './inksigns.js';
 
 /** @typedef {{ session: import('./session.js').Session, view: import('./view.js').View, layout: import('./layout.js').Layout,
- *   hand: import('./hand.js').Hand, pen: import('./pen.js').Pen, style: import('./style.js').Style, notes: import('./notes.js').Notes }} Parts */
+ *   hand: import('./hand.js').Hand, pen: import('./pen.js').Pen, style: import('./style.js').Style, notes: import('./notes.js').Notes, faces: import('./faces.js').Faces }} Parts */
 
 /** The page's colours that are read from its style. */
-const NAMES = ['paper', 'ink', 'quiet', 'dot', 'accent', 'soft', 'bad', 'bad-soft', 'edge'];
+const NAMES = ['paper', 'desk', 'ink', 'quiet', 'dot', 'rule', 'accent', 'soft', 'bad', 'bad-soft', 'edge'];
 
 /** Where the page keeps the look, and whether it is light or dark. */
 const LOOK = 'wb-look', LIGHT = 'wb-theme';
-
-/** Points between two dots of the ground, at least and at most. */
-const DOTS = { least: 26, most: 60 };
 
 export class Painter {
   /** @param {HTMLCanvasElement} canvas */
@@ -89,11 +87,11 @@ export class Painter {
     return this.brush.measureText('M').width;
   }
 
-  /** The colour of a member: the one that it chose, else one by its number.
+  /** The colour of a member: the one that it chose, else one that nobody here has.
    * @param {number} source */
   tintOf(source, isNight = this.isNight()) {
-    const chosen = this.parts?.notes.told.colours.get(source);
-    return chosen === undefined ? colourOf(source, isNight) : (isNight ? NIGHT : DAY)[chosen];
+    const colour = this.parts?.notes.told.colours.get(source) ?? this.parts?.faces?.colours.get(source);
+    return colour === undefined ? colourOf(source, isNight) : (isNight ? NIGHT : DAY)[colour];
   }
 
   /** What is saved and printed has the colours of the day.
@@ -112,7 +110,7 @@ export class Painter {
     this.isPlanned = false;
     this.clear();
     if (this.isInk) {
-      this.paintGround();
+      paintGround(this.brush, this.parts.view, this.colours, this.parts.notes.paperOf(this.parts.session.board.page));
       this.ink.paint();
       this.ghosts.paint();
     } else {
@@ -137,18 +135,6 @@ export class Painter {
   setFont(brush, size) {
     brush.font = `${size}px ${this.font}`;
     [brush.textAlign, brush.textBaseline] = ['center', 'middle'];
-  }
-
-  /** A quiet ground of dots, which grow apart as the page becomes smaller. */
-  paintGround() {
-    const { brush, parts: { view } } = this, [left, top] = view.corner();
-    let step = 2 * view.high;
-    while (step < DOTS.least) step *= 2;
-    while (step > DOTS.most) step /= 2;
-    brush.fillStyle = this.colours.dot;
-    for (let y = -(top % step); y < view.height; y += step) {
-      for (let x = -(left % step); x < view.width; x += step) brush.fillRect(Math.round(x), Math.round(y), 1.4, 1.4);
-    }
   }
 
   /** Paints in units of the page.

@@ -1,11 +1,13 @@
 /** The pen and the highlighter: a stroke is sent while it is drawn, text by text, and strokes near to one another share a text. */
-import { off } from './inkcurves.js';
+import { distance, off } from './inkcurves.js';
 import { fitted } from './inkfitting.js';
 import { CELL_WIDE } from './inksigns.js';
+import { bySpeed } from './inkspeed.js';
 import { placed, writeStroke } from './inkwriting.js';
 
 /** @typedef {import('./types.js').Shape} Shape */
 /** @typedef {import('./ink.js').Point} Point */
+/** @typedef {import('./inkspeed.js').Timed} Timed */
 /** @typedef {import('./inkwriting.js').Nib} Nib */
 /** The points that are kept of a hand's way, each with its place in the way.
  * @typedef {(Point & { i?: number })[]} Knots */
@@ -16,10 +18,16 @@ import { placed, writeStroke } from './inkwriting.js';
 const RESTS = 700, NEAR_CELLS = 14;
 
 /** A hand's way is kept as near as this many points of the screen; points of it that are nearer to one another are one. */
-const NEAR = 0.55, APART = 0.6;
+const NEAR = 0.55, APART = 0.3;
 
 /** A stroke that is about straight becomes so if the pen rests for this many milliseconds at its end; how far it may be off, as a part of its length. */
 const HELD = 600, ABOUT_STRAIGHT = 0.12;
+
+/** Points of a way that is written which are known still. */
+const KNOWN = 32;
+
+/** The last points of a stroke, which still change as it goes on: a text is sent if it has none of them. */
+const OPEN = 4;
 
 /** After this many more points, whether a text is full is looked at. */
 const LOOKED_AT = 6;
@@ -35,8 +43,11 @@ class Strokes {
     /** The points of strokes that are done, and the way of the one that is drawn.
      * @type {Knots} */
     this.knots = [];
-    /** @type {Point[]} */
+    /** @type {Timed[]} */
     this.way = [];
+    /** What of it is written already, as far as it is needed still.
+     * @type {Timed[]} */
+    this.before = [];
     /** Whether a text of them is sent: what follows goes on with it. */
     this.isMore = false;
     this.isDown = false;
@@ -53,7 +64,7 @@ class Strokes {
    * @param {Point} at */
   begin(at) {
     clearTimeout(this.timer);
-    Object.assign(this, { way: [at], isDown: true, isWhole: true, isStraight: false, made: null });
+    Object.assign(this, { way: [at], before: [], isDown: true, isWhole: true, isStraight: false, made: null });
   }
 
   /** Goes on to points that are not too near to one another; how many more the way has.
@@ -83,8 +94,8 @@ class Strokes {
   /** Lifts the pen, and keeps the stroke if it is to be.
    * @param {boolean} isKept */
   lift(isKept) {
-    if (isKept) this.knots.push(...this.fit());
-    Object.assign(this, { way: [], isDown: false, made: null });
+    if (isKept) this.knots.push(...this.fit(true));
+    Object.assign(this, { way: [], before: [], isDown: false, made: null });
   }
 
   /** Drops what was drawn since the pen was lifted last, if that was; whether it was so. */
@@ -94,8 +105,10 @@ class Strokes {
     return at > 0;
   }
 
-  fit() {
-    return fitted(this.way.map((at, i) => ({ ...at, i })), NEAR * this.point);
+  /** @param {boolean} [isDone] whether the pen is lifted */
+  fit(isDone = false) {
+    const way = this.way.map((at, i) => ({ ...at, i })), isTold = this.nib.kind !== 'v' || this.way[0]?.pressure !== undefined;
+    return fitted(isTold ? way : bySpeed(way, this.before, this.point, isDone), NEAR * this.point, this.before);
   }
 
   /** All that is not sent, in points and in texts. */
@@ -113,14 +126,25 @@ class Strokes {
 
   /** Keeps what follows the last text that was sent, from where it ends.
    * @param {Knots} knots @param {Written} last */
-  after(knots, { upTo, part, end }) {
+  after(knots, { upTo, end }) {
     const done = this.knots.length, placeOf = (/** @type {number} */ at) => knots[at]?.i ?? 0;
     Object.assign(this, { isMore: true, isWhole: upTo < done, made: null });
     if (upTo < done) this.knots = [end, ...this.knots.slice(upTo + 1)];
-    else {
-      this.way = [end, ...this.way.slice(Math.floor(placeOf(upTo) + part * (placeOf(upTo + 1) - placeOf(upTo))) + 1)];
-      this.knots = [];
-    }
+    else this.cut(end, placeOf(upTo), placeOf(upTo + 1));
+  }
+
+  /** The way goes on from where a text ends, at one of these places of it or between them. What comes before is known still: it says how the way goes there.
+   * @param {Point} end @param {number} from @param {number} to */
+  cut(end, from, to) {
+    let at = from;
+    for (let i = from; i <= to; i += 1) if (distance(this.way[i], end) < distance(this.way[at], end)) at = i;
+    const whole = [...this.before, ...this.way], many = this.before.length, next = this.way[at + 1];
+    // a point that is not left behind yet
+    const isAhead = next && (next.x - this.way[at].x) * (end.x - this.way[at].x) + (next.y - this.way[at].y) * (end.y - this.way[at].y) > 0;
+    this.before = whole.slice(Math.max(0, many + at - KNOWN), many + at + (isAhead ? 1 : 0));
+    const { time } = this.way[at], { pressure, ...place } = end, isTold = this.way[at].pressure !== undefined;
+    this.way = [{ ...place, time, ...isTold ? { pressure } : {} }, ...this.way.slice(at + 1)];
+    this.knots = [];
   }
 }
 
@@ -150,7 +174,7 @@ export class Pen {
   /** Puts the pen down.
    * @param {Omit<Nib, 'scale'>} look @param {Point} at */
   begin(look, at) {
-    const nib = { ...look, scale: this.scale() }, isOn = this.goesOn(nib, at);
+    const nib = { ...look, scale: this.scale(), isFree: true }, isOn = this.goesOn(nib, at);
     if (!isOn) this.flush();
     this.strokes ??= new Strokes(nib, this.board.session.board.page, this.board.steps.begin(), this.point);
     this.strokes.begin(isOn ? { ...at, up: true } : at);
@@ -174,7 +198,7 @@ export class Pen {
     this.hold = /** @type {any} */ (setTimeout(() => strokes.straighten() && this.board.painter.soon(), HELD));
     this.unseen += strokes.add(points);
     if (this.unseen < LOOKED_AT) return;
-    const { knots, texts } = strokes.open(), full = texts.slice(0, -1);
+    const { knots, texts } = strokes.open(), full = texts.slice(0, -1).filter(({ upTo }) => upTo + OPEN < knots.length);
     this.unseen = 0;
     full.forEach((text) => this.send(strokes, text));
     if (full.length) strokes.after(knots, full[full.length - 1]);

@@ -48,10 +48,10 @@ export class Pointing {
   }
 
   /** The points of the page that a movement went over.
-   * @param {PointerEvent} event @returns {import('./ink.js').Point[]} */
+   * @param {PointerEvent} event @returns {import('./inkspeed.js').Timed[]} */
   pointsOf(event) {
     const events = event.getCoalescedEvents?.() ?? [];
-    return (events.length ? events : [event]).map((each) => ({ ...this.view.pointAt(each), ...(this.isPressed ? { pressure: each.pressure } : {}) }));
+    return (events.length ? events : [event]).map((each) => ({ ...this.view.pointAt(each), time: each.timeStamp, ...(this.isPressed ? { pressure: each.pressure } : {}) }));
   }
 
   isStylusDown() {

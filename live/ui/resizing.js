@@ -1,9 +1,8 @@
 /** What is selected is made larger or smaller by a corner of the box about it, as if that were drawn on a sheet of rubber: the opposite
  * corner stays where it is. */
 import { SIDE, clamp } from './cells.js';
-import { isClosed, isStroke } from './ink.js';
 import { off } from './inkcurves.js';
-import { isLetters } from './inkfonts.js';
+import { KINDS, isClosed, isLetters, isLine, isStroke } from './inkkinds.js';
 import { boxAboutAll, closeBoxOf } from './inkpaint.js';
 import { CELL_HIGH, CELL_WIDE, SIZES } from './inksigns.js';
 import { placed, writeLink, writeShape, writeStroke, writeWords } from './inkwriting.js';
@@ -104,9 +103,9 @@ function inkTexts(item, { to, times, isTurn }) {
   // shapes and letters stay upright: their middle is turned alone
   const moved = isTurn && upright ? about(item, to) : points.map(to);
   if (isStroke(kind)) return writeStroke({ ...look, kind, scale: flag }, moved).map(({ text }) => text);
-  if (kind === 'l' || isClosed(kind)) return writeShape(kind, look, flag, moved, letters);
-  const sized = { colour, width: sizeNear(SIZES[width] * times) }, link = kind === 'k' ? writeLink(sized, moved[0], letters) : null;
-  return link ? [link] : writeWords(sized, kind === 't' ? flag : 0, moved[0], letters);
+  if (isLine(item) || isClosed(kind)) return writeShape(kind, look, flag, moved, letters);
+  const sized = { colour, width: sizeNear(SIZES[width] * times) }, link = KINDS[kind].isLink ? writeLink(sized, moved[0], letters) : null;
+  return link ? [link] : writeWords(sized, KINDS[kind].isLink ? 0 : flag, moved[0], letters);
 }
 
 /** A plain drawing by cells: its ends, or where its text begins.
@@ -127,5 +126,5 @@ function plain(shape, { to }) {
 
 /** Items as they are drawn after a stretch.
  * @type {(items: Item[], stretch: Stretch) => Shape[]} */
-export const stretched = (items, stretch) => items.flatMap((item) => (item.kind.length > 1
+export const stretched = (items, stretch) => items.flatMap((item) => (KINDS[item.kind].isPlain
   ? item.drawings.map((drawing) => plain(drawing, stretch)) : inkTexts(item, stretch).map((text) => placed(text, 0))));

@@ -1,5 +1,6 @@
 /** What the member told last, and what it is asked to do. The page holds no other truth. */
 import { nameOf, spell } from './cells.js';
+import { retold, wording } from './language.js';
 import { calledBy, leavesOf } from './leaves.js';
 
 /** @typedef {import('./types.js').Member} Member */
@@ -177,7 +178,7 @@ export class Session {
   /** What a member is called.
    * @param {number} member */
   nameOf(member) {
-    return this.called.get(member) || `Guest ${String(member).slice(-2)}`;
+    return this.called.get(member) || (member === this.hello.keeper ? wording('theBoard') : wording('guest', { number: String(member).slice(-2) }));
   }
 
   /** What a page is called: by its title, else by its place among the pages.
@@ -189,7 +190,7 @@ export class Session {
   /** Whose drawing it is, in words.
    * @param {number} member */
   who(member) {
-    return member === this.hello.me ? 'you' : this.nameOf(member);
+    return member === this.hello.me ? wording('you') : this.nameOf(member);
   }
 
   /** Has a shape drawn, on the page in view if no other is named. Its ghost stays until the board shows it.
@@ -214,7 +215,7 @@ export class Session {
     if (wait) this.waiting.add(wait);
     this.emit('ghosts');
     const answer = await this.member.draw(page || await this.opened, operation);
-    if (!answer.ok) this.emit('fault', `Not drawn: ${answer.fault}`);
+    if (!answer.ok) this.emit('fault', wording('notDrawn', { why: retold(answer.fault) }));
     if (wait) this.settle(wait, answer);
     return answer;
   }
@@ -230,15 +231,16 @@ export class Session {
     this.emit('ghosts');
   }
 
-  /** Asks for a page, or for a new one.
-   * @param {string | null} page @param {boolean} [isLed] whether that is another's wish */
+  /** Asks for a page, or for a new one, and gives its name if it is there.
+   * @param {string | null} page @param {boolean} [isLed] whether that is another's wish @returns {Promise<string | undefined>} */
   async goToPage(page, isLed = false) {
     if (!isLed) this.emit('turning');
     this.wished = page;
     const answer = await this.member.choose(page);
-    if (answer.ok) return;
+    if (answer.ok) return answer.page;
     this.wished = null;
-    this.emit('fault', `The page was not turned: ${answer.fault}`);
+    this.emit('fault', wording('notTurned', { why: retold(answer.fault) }));
+    return undefined;
   }
 
   /** The pages that are turned through. */

@@ -1,5 +1,6 @@
 /** The panel: people, the chat and the network, behind one button; and what is new in the chat. */
 import { $ } from './dom.js';
+import { wording } from './language.js';
 
 export class Side {
   /** @param {import('./whiteboard.js').Whiteboard} board */
@@ -47,6 +48,6 @@ export class Side {
     this.unread = Math.max(0, all - this.seen);
     $('unread').textContent = String(this.unread);
     $('unread').hidden = this.unread === 0;
-    $('fold').setAttribute('aria-label', `People, chat and network${this.unread ? `: ${this.unread} new` : ''}`);
+    $('fold').setAttribute('aria-label', this.unread ? wording('sideNew', { n: this.unread }) : wording('side'));
   }
 }

@@ -1,7 +1,9 @@
 /** What is in sight: everything at once, the way back to the drawings, the look of the page, and light or dark. */
 import { $ } from './dom.js';
+import { KINDS } from './inkkinds.js';
 import { boxAboutAll } from './inkpaint.js';
 import { FIRST_ROW } from './inksigns.js';
+import { wording } from './language.js';
 import { USUAL } from './view.js';
 
 /** Tools that one of the looks has not. */
@@ -59,9 +61,9 @@ export class Sight {
   /** Says where the drawings are if none is in view. */
   showAway() {
     const { view, ink, painter } = this.board;
-    const isPacked = () => view.top + view.rows < FIRST_ROW && ink.items.some(({ kind }) => kind.length === 1);
+    const isPacked = () => view.top + view.rows < FIRST_ROW && ink.items.some(({ kind }) => !KINDS[kind].isPlain);
     $('away').hidden = painter.isInk ? !ink.items.length || ink.grid.hasAny(view.boxInUnits()) : !isPacked();
-    $('away').textContent = painter.isInk ? 'Back to the drawings' : `Ink stands packed from row ${FIRST_ROW} on: go there`;
+    $('away').textContent = painter.isInk ? wording('backToDrawings') : wording('inkPacked', { row: FIRST_ROW });
   }
 
   /** The hand asks for everything. */

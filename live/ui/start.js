@@ -1,6 +1,10 @@
 /** The page that `wb-live` serves: the whiteboard over a member behind HTTP. */
 import { openWhiteboard } from './whiteboard.js';
 import { HttpMember } from './connection.js';
+import { Inviting } from './inviting.js';
 
-const token = /** @type {HTMLMetaElement} */ (document.querySelector('meta[name=wb-token]')).content;
-openWhiteboard(new HttpMember(token));
+/** @type {(name: string) => string} */
+const told = (name) => /** @type {HTMLMetaElement} */ (document.querySelector(`meta[name=wb-${name}]`)).content;
+
+openWhiteboard(new HttpMember(told('token')));
+new Inviting(told('address'));

@@ -1,6 +1,7 @@
 /** Undo and redo by steps: what one gesture drew, deleted and restored, however many drawops it took. */
 import { nameOf } from './cells.js';
 import { say, tell } from './dom.js';
+import { wording } from './language.js';
 
 /** @typedef {import('./session.js').Session} Session */
 /** @typedef {import('./types.js').Shape} Shape */
@@ -60,14 +61,14 @@ export class Steps {
     const at = this.done.findLastIndex(({ page, isEmpty }) => page === this.session.board.page && !isEmpty);
     if (at < 0) return this.undoDrawn();
     const [step] = this.done.splice(at, 1);
-    if (await step.isMoot()) return tell('What you drew last is erased already. The panel “People” brings it back.');
+    if (await step.isMoot()) return tell(wording('undoMoot'));
     this.undone.push(await step.reversed());
     return undefined;
   }
 
   async redo() {
     const at = this.undone.findLastIndex(({ page }) => page === this.session.board.page);
-    if (at < 0) return say('Nothing to restore.');
+    if (at < 0) return say(wording('nothingToRedo'));
     const [step] = this.undone.splice(at, 1);
     this.done.push(await step.reversed());
     return undefined;
@@ -77,7 +78,7 @@ export class Steps {
   async undoDrawn() {
     const { board, hello } = this.session;
     const ours = board.drawops.filter((drawing) => drawing.source === hello.me && !this.leaving.has(nameOf(drawing)));
-    if (!ours.length) return say('Nothing of yours is left on this page.');
+    if (!ours.length) return say(wording('nothingOfYours'));
     const last = ours.reduce((a, b) => (a.seq > b.seq ? a : b)), step = new Step(this.session, board.page, this.coming);
     for (const drawing of this.itemOf(last)) {
       this.leaving.add(nameOf(drawing));

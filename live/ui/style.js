@@ -2,31 +2,33 @@
 import { BRIGHT, COLOURS, DAY, NIGHT, OFFERED } from './colours.js';
 import { $, make, say } from './dom.js';
 import { OWN } from './inksigns.js';
+import { wording } from './language.js';
 
 /** What is drawn with: a colour and a width; of the highlighter and of notes a colour, and of the highlighter a width; of letters the size and
- * the font; whether lines are dashed, and arrows have two heads; how shapes are filled; and whether the eraser takes what it touches alone.
+ * the font; whether lines are dashed, and arrows have two heads; how shapes are filled; whether the eraser takes what it touches alone; and whether the pen is as
+ * wide however fast it goes.
  * @typedef {{ colour: number, width: number, bright: number, broad: number, size: number, font: number, isDashed: boolean, hasTwo: boolean, fill: number,
- *   cuts: boolean }} Look */
+ *   cuts: boolean, isEven: boolean }} Look */
 
 /** Where the page keeps it. */
 const KEPT = 'wb-style';
 
 /** @type {Look} */
-const USUAL = { colour: 0, width: 2, bright: 3, broad: 6, size: 3, font: 0, isDashed: false, hasTwo: false, fill: 0, cuts: false };
+const USUAL = { colour: 0, width: 2, bright: 3, broad: 6, size: 3, font: 0, isDashed: false, hasTwo: false, fill: 0, cuts: false, isEven: true };
 
 /** The widths that are offered, of strokes and of the highlighter, and points of their marks. */
-const WIDTHS = [[1, 'fine'], [2, 'normal'], [4, 'thick'], [6, 'very thick']], BROAD = [[5, 'fine'], [6, 'normal'], [7, 'thick'], [8, 'very thick']], MARKS = [5, 8, 13, 19];
+const WIDTHS = [[1, 'fine'], [2, 'normal'], [4, 'thick'], [6, 'veryThick']], BROAD = [[5, 'fine'], [6, 'normal'], [7, 'thick'], [8, 'veryThick']], MARKS = [5, 8, 13, 19];
 
 /** What can be chosen for each tool. */
-const LINES = ['colours', 'widths', 'looks'], /** @type {Record<string, string[]>} */ ROWS = { pen: ['colours', 'widths'], marker: ['colours', 'widths'],
+const LINES = ['colours', 'widths', 'looks'], /** @type {Record<string, string[]>} */ ROWS = { pen: ['colours', 'widths', 'looks'], marker: ['colours', 'widths'],
   line: LINES, arrow: LINES, frame: LINES, ellipse: LINES, diamond: LINES, note: ['colours'], text: ['colours', 'fonts'], erase: ['looks'] };
 
 /** What can be switched for each tool. */
-const SHAPES = ['dashed', 'filled', 'full'], /** @type {Record<string, string[]>} */ LOOKS = { line: ['dashed'], arrow: ['dashed', 'heads at both ends'], frame: SHAPES,
-  ellipse: SHAPES, diamond: SHAPES, erase: ['only what it touches'] };
+const SHAPES = ['dashed', 'filled', 'full'], /** @type {Record<string, string[]>} */ LOOKS = { pen: ['thinner'], line: ['dashed'], arrow: ['dashed', 'twoHeads'], frame: SHAPES,
+  ellipse: SHAPES, diamond: SHAPES, erase: ['cuts'] };
 
 /** The sizes and the fonts of letters. */
-const SIZES = [[1, 'S', 'small'], [3, 'M', 'middle'], [5, 'L', 'large'], [7, 'XL', 'very large']], FONTS = [[0, 'Aa', 'plain'], [2, 'x²', 'formula'], [1, '{}', 'code']];
+const SIZES = [[1, 'S', 'small'], [3, 'M', 'middle'], [5, 'L', 'large'], [7, 'XL', 'veryLarge']], FONTS = [[0, 'Aa', 'plain'], [2, 'x²', 'formula'], [1, '{}', 'code']];
 
 export class Style {
   /** @param {import('./whiteboard.js').Whiteboard} board */
@@ -76,9 +78,9 @@ export class Style {
     const { hand, changing } = this.board, { tool } = hand;
     if (!changing.isOn) return { rows: ROWS[tool] ?? [], looks: LOOKS[tool] ?? [], look: this.look, isMarker: tool === 'marker' };
     const items = hand.chosenItems(), [{ colour = 0, width = 0, flag = 0, kind = '' } = {}] = items, has = (/** @type {string} */ kinds) => items.some((item) => kinds.includes(item.kind) && item.kind.length === 1);
-    const look = { colour, bright: colour, width, broad: width, size: width, font: kind === 't' ? flag : 0, isDashed: Boolean(flag & 4), hasTwo: kind === 'l' && (flag & 3) === 3, fill: flag & 3, cuts: false };
+    const look = { colour, bright: colour, width, broad: width, size: width, font: kind === 't' ? flag : 0, isDashed: Boolean(flag & 4), hasTwo: kind === 'l' && (flag & 3) === 3, fill: flag & 3, cuts: false, isEven: true };
     const rows = [...has('svhlrodnt') ? ['colours'] : [], ...has('svhlrod') ? ['widths'] : [], ...has('t') ? ['fonts'] : [], ...has('lrod') ? ['looks'] : []];
-    const looks = ['dashed', ...has('rod') ? SHAPES.slice(1) : [], ...items.some((item) => item.kind === 'l' && item.flag & 1) ? ['heads at both ends'] : []];
+    const looks = ['dashed', ...has('rod') ? SHAPES.slice(1) : [], ...items.some((item) => item.kind === 'l' && item.flag & 1) ? ['twoHeads'] : []];
     return { rows, looks, look, isMarker: items.every((item) => item.kind === 'h') };
   }
 
@@ -88,7 +90,7 @@ export class Style {
     const button = $('style-open'), at = Math.max(0, widths.findIndex(([each]) => each === width));
     button.style.setProperty('--c', isBright ? BRIGHT[colour] : this.tintOf(colour));
     button.style.setProperty('--w', `${MARKS[at] + 7}px`);
-    button.setAttribute('aria-label', `Colour and width: ${COLOURS[colour]}, ${widths[at][1]}`);
+    button.setAttribute('aria-label', wording('colourAndWidthAre', { colour: wording(COLOURS[colour]), width: wording(widths[at][1]) }));
   }
 
   /** Opens or closes the rows on a narrow window.
@@ -108,26 +110,30 @@ export class Style {
     /** @param {string} row @param {any[]} buttons */
     const fill = (row, buttons) => refill(bar.querySelector(row), buttons);
     fill('.colours', OFFERED.map((colour) => {
-      const button = radio(COLOURS[colour], colour === (isBright ? look.bright : look.colour), () => this.setColour(colour));
+      const button = radio(wording(COLOURS[colour]), colour === (isBright ? look.bright : look.colour), () => this.setColour(colour));
       button.style.setProperty('--c', isBright ? BRIGHT[colour] : this.tintOf(colour));
       return button;
     }));
     fill('.widths', (isMarker ? BROAD : WIDTHS).map(([width, name], i) => {
-      const button = radio(String(name), width === (isMarker ? look.broad : look.width), () => this.set(isMarker ? { broad: Number(width) } : { width: Number(width) }));
+      const button = radio(named(name), width === (isMarker ? look.broad : look.width), () => this.set(isMarker ? { broad: Number(width) } : { width: Number(width) }));
       button.style.setProperty('--w', `${MARKS[i]}px`);
       return button;
     }));
-    fill('.fonts', [...SIZES.map(([size, text, name]) => radio(String(name), look.size === size, () => this.set({ size: Number(size) }), text)),
-      ...FONTS.map(([font, text, name]) => radio(String(name), look.font === font, () => this.set({ font: Number(font) }), text))]);
+    fill('.fonts', [...SIZES.map(([size, text, name]) => radio(named(name), look.size === size, () => this.set({ size: Number(size) }), text)),
+      ...FONTS.map(([font, text, name]) => radio(named(name), look.font === font, () => this.set({ font: Number(font) }), text))]);
     /** @type {Record<string, () => any>} */
-    const toggles = { dashed: () => toggle('dashed', '┄', look.isDashed, () => this.set({ isDashed: !look.isDashed })),
-      filled: () => toggle('filled', '▨', look.fill === 1, () => this.set({ fill: look.fill === 1 ? 0 : 1 })),
-      full: () => toggle('full', '■', look.fill === 2, () => this.set({ fill: look.fill === 2 ? 0 : 2 })),
-      'heads at both ends': () => toggle('heads at both ends', '↔', look.hasTwo, () => this.set({ hasTwo: !look.hasTwo })),
-      'only what it touches': () => toggle('only what it touches', '⌿', look.cuts, () => this.set({ cuts: !look.cuts })) };
+    const toggles = { dashed: () => toggle(wording('dashed'), '┄', look.isDashed, () => this.set({ isDashed: !look.isDashed })),
+      filled: () => toggle(wording('filled'), '▨', look.fill === 1, () => this.set({ fill: look.fill === 1 ? 0 : 1 })),
+      full: () => toggle(wording('full'), '■', look.fill === 2, () => this.set({ fill: look.fill === 2 ? 0 : 2 })),
+      twoHeads: () => toggle(wording('twoHeads'), '↔', look.hasTwo, () => this.set({ hasTwo: !look.hasTwo })),
+      cuts: () => toggle(wording('cuts'), '⌿', look.cuts, () => this.set({ cuts: !look.cuts })),
+      thinner: () => toggle(wording('thinner'), '∿', !look.isEven, () => this.set({ isEven: !look.isEven })) };
     fill('.looks', looks.map((name) => toggles[name]()));
   }
 }
+
+/** @type {(key: any) => string} */
+const named = (key) => wording(key);
 
 /** Puts other buttons into a row. If one of this name had the focus, it has it again.
  * @type {(row: any, buttons: any[]) => void} */

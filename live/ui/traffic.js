@@ -1,5 +1,6 @@
 /** The last datagrams in words, with a line from each request to its repair. */
 import { $, make } from './dom.js';
+import { retold, wording } from './language.js';
 
 /** @typedef {import('./types.js').Entry} Entry */
 
@@ -62,13 +63,14 @@ export class Traffic {
   /** What a datagram means for the session, in a few words.
    * @param {Entry} entry @param {Entry} [asked] */
   noteOf(entry, asked) {
-    if (entry.refused) return `refused: ${entry.refused}`;
-    if (entry.lost) return 'lost on purpose';
-    if (!asked) return entry.twice ? 'twice' : '';
+    if (entry.refused) return wording('refusedWhy', { why: retold(entry.refused) });
+    if (entry.lost) return wording('wasLost');
+    if (!asked) return entry.twice ? wording('twice') : '';
     const repairs = this.entries.filter(({ answers, lost }) => answers === asked.id && !lost), isFirst = repairs[0] === entry;
-    const helper = entry.way === 'out' ? 'you' : entry.by ?? entry.member;
-    if (isFirst && asked.held && asked.way === 'in' && repairs.every(({ way }) => way === 'in')) return `repaired by ${helper} first, you stay silent`;
-    return `repaired by ${helper}${asked.way === 'in' ? ` for ${asked.member}` : ''}${isFirst ? '' : ', once more'}`;
+    const who = entry.way === 'out' ? wording('wireYou') : entry.by ?? entry.member ?? '', member = asked.member ?? '';
+    if (isFirst && asked.held && asked.way === 'in' && repairs.every(({ way }) => way === 'in')) return wording('repairedFirst', { who });
+    const text = wording(asked.way === 'in' ? 'repairedFor' : 'repaired', { who, member });
+    return isFirst ? text : wording('onceMore', { text });
   }
 
   /** @param {Entry} entry @param {Entry} [asked] */

@@ -10,7 +10,7 @@
 /** @typedef {{ lose: number, delay: number, twice: number, mix: boolean }} Worse */
 /** Which member this is, and what it says of itself.
  * @typedef {{ me: number, mode: string, notice: string, ready: boolean, teach: boolean, cells?: number, twin?: boolean, worsen?: Worse,
- *   proof?: Proof, clears?: boolean, othersClear?: boolean }} Hello   clears: whether this member's windows may clear pages; othersClear: of the
+ *   proof?: Proof, clears?: boolean, othersClear?: boolean, keeper?: number }} Hello   keeper: the member that keeps the board and has no window; clears: whether this member's windows may clear pages; othersClear: of the
  *   window of who keeps the board, whether those of others may
  * @typedef {{ proved: boolean, text: string, progress: string, crates: number, many: number }} Proof   of the program that the member runs by */
 /** A drawing that is hidden: who erased it, under which number and when, and the operation of the number before, if that was within a second.

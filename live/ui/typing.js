@@ -2,17 +2,19 @@
  * or in a shape. */
 import { SIDE } from './cells.js';
 import { $, tell } from './dom.js';
-import { isClosed } from './ink.js';
-import { IN_SHAPES, LEADING, fontOf, linesOf, standOf, widthOf } from './inkfonts.js';
+import { IN_SHAPES, LEADING, boxOfLetters, fontOf, isFromRight, linesOf, standOf, widthOf } from './inkfonts.js';
+import { isClosed } from './inkkinds.js';
 import { CELL_WIDE, PAGE_HIGH, SIZES } from './inksigns.js';
 import { placed, writeLink, writeShape, writeWords } from './inkwriting.js';
+import { wording } from './language.js';
 import { plainOf, writing } from './shapes.js';
 
 /** @typedef {import('./cells.js').Cell} Cell */
 /** @typedef {import('./ink.js').Point} Point */
 /** @typedef {import('./inkitems.js').Item} Item */
-/** Letters of ink that are typed: how they look, their point or the corners of their shape, what stood there, and the drawings that it was.
- * @typedef {{ kind: string, colour: number, width: number, flag: number, points: Point[], was: string, old: import('./types.js').Drawing[] }} Letters */
+/** Letters of ink that are typed: how they look, their point or the corners of their shape, what stood there, the drawings that it was, and
+ * where it ends at the right: there letters begin that are written from the right.
+ * @typedef {{ kind: string, colour: number, width: number, flag: number, points: Point[], was: string, old: import('./types.js').Drawing[], right: number }} Letters */
 /** What is typed on a page: from a cell on, or letters of ink.
  * @typedef {{ page: string, cell: Cell } | { page: string, letters: Letters }} Typed */
 
@@ -43,20 +45,21 @@ export class Typing {
    * @param {Point} at */
   beginLetters(at) {
     const { colour, size, font } = this.board.style.look, point = { x: at.x, y: Math.max(0, at.y - (SIZES[size] * LEADING) / 2) };
-    this.openLetters({ kind: 't', colour, width: size, flag: font, points: [point], was: '', old: [] });
+    this.openLetters({ kind: 't', colour, width: size, flag: font, points: [point], was: '', old: [], right: at.x });
   }
 
   /** A note that is written at once.
    * @param {Point} from @param {Point} to */
   beginNote(from, to) {
-    this.openLetters({ kind: 'n', colour: this.board.style.look.bright, width: IN_SHAPES, flag: 1, points: [from, to], was: '', old: [] });
+    this.openLetters({ kind: 'n', colour: this.board.style.look.bright, width: IN_SHAPES, flag: 1, points: [from, to], was: '', old: [], right: to.x });
   }
 
   /** The letters of an item that is there, or of a shape that has none.
    * @param {Item} item */
-  edit({ kind, colour, width, flag, points: [a, b], letters, drawings }) {
+  edit(item) {
+    const { kind, colour, width, flag, points: [a, b], letters, drawings } = item, right = kind === 't' ? boxOfLetters(item).x1 : 0;
     const points = isClosed(kind) ? [{ x: Math.min(a.x, b.x), y: Math.min(a.y, b.y) }, { x: Math.max(a.x, b.x), y: Math.max(a.y, b.y) }] : [a];
-    this.openLetters({ kind, colour, width, flag, points, was: letters, old: drawings });
+    this.openLetters({ kind, colour, width, flag, points, was: letters, old: drawings, right });
   }
 
   /** @param {Letters} letters */
@@ -93,13 +96,26 @@ export class Typing {
 
   /** @param {Letters} letters */
   placeLetters(letters) {
-    const { box, board: { view, style } } = this, { kind, colour, points: [from, to] } = letters, scale = view.wide / CELL_WIDE, [left, top] = view.corner();
+    const { box, board: { view, style } } = this, { kind, colour, points: [start, to], right } = letters, isLeftward = this.isLeftward(letters), scale = view.wide / CELL_WIDE, [left, top] = view.corner();
     const item = this.itemOf(letters), { font, size } = standOf(item), high = size * LEADING * scale, rows = box.value.split('\n').length;
-    const isNote = kind === 'n', tall = to ? (to.y - from.y) * scale : rows * high + 2, wide = Math.max(...box.value.split('\n').map((row) => widthOf(row, font, size))) + size;
+    const isNote = kind === 'n', tall = to ? (to.y - start.y) * scale : rows * high + 2, wide = this.wideOf(letters) + size, from = isLeftward ? { x: right - wide, y: start.y } : start;
     Object.assign(box.style, { left: `${from.x * scale - left}px`, top: `${from.y * scale - top}px`, width: `${(to ? to.x - from.x : wide) * scale}px`, height: `${tall}px`,
       font: fontOf(font, size * scale).replace('px', `px/${high}px`), color: isNote ? 'var(--ink)' : style.tintOf(colour),
-      textAlign: to && !isNote ? 'center' : 'left', background: isNote ? `color-mix(in srgb, ${style.brightOf(colour)} 42%, var(--paper))` : 'transparent',
+      textAlign: to && !isNote ? 'center' : isLeftward ? 'right' : 'left', background: isNote ? `color-mix(in srgb, ${style.brightOf(colour)} 42%, var(--paper))` : 'transparent',
       padding: isNote ? `${(60 - size * 0.14) * scale}px ${55 * scale}px` : to ? `${Math.max(0, (tall - rows * high) / 2)}px 0 0` : '0' });
+  }
+
+  /** Whether what is typed by itself is written from the right, and so goes on to the left.
+   * @param {Letters} letters */
+  isLeftward({ kind }) {
+    return kind === 't' && isFromRight(this.box.value);
+  }
+
+  /** How wide what is typed is, in units.
+   * @param {Letters} letters */
+  wideOf(letters) {
+    const { font, size } = standOf(this.itemOf(letters));
+    return Math.max(...this.box.value.trimEnd().split('\n').map((row) => widthOf(row, font, size)));
   }
 
   /** What is typed as an item that is not drawn yet.
@@ -129,11 +145,12 @@ export class Typing {
 
   /** Draws what was typed as ink, in the place of what stood there. An address alone becomes a link.
    * @param {Letters} letters @param {string} page */
-  drawLetters({ kind, colour, width, flag, points, was, old }, page) {
-    const text = this.box.value.trimEnd(), look = { colour, width }, [at] = points, link = kind === 't' ? writeLink(look, at, text.trim()) : null;
+  drawLetters(letters, page) {
+    const { kind, colour, width, flag, points, was, old, right } = letters, text = this.box.value.trimEnd(), look = { colour, width }, [start] = points;
+    const at = this.isLeftward(letters) ? { ...start, x: Math.max(0, right - this.wideOf(letters)) } : start, link = kind === 't' ? writeLink(look, at, text.trim()) : null;
     // a note without letters is none
     if ((old.length ? text === was.trimEnd() : kind === 'n' && !text)) return;
-    const shape = kind === 'n' ? [at, this.cornerOf({ kind, colour, width, flag, points, was, old })] : points;
+    const shape = kind === 'n' ? [at, this.cornerOf(letters)] : points;
     const texts = link ? [link] : isClosed(kind) ? writeShape(kind, look, flag, shape, text) : writeWords(look, flag, at, text);
     this.board.hand.change(texts.map((each) => placed(each, 0)), old, { page, isAgain: old.length > 0 });
   }
@@ -144,8 +161,8 @@ export class Typing {
     this.place();
     if (!typed || 'letters' in typed) return;
     box.classList.toggle('lost', lost.length > 0);
-    if (lost.length) tell(`${lost.slice(0, 8).join(' ')} cannot be drawn: a text of cells has letters, digits and signs of ASCII only.`);
-    else if (box.value.split('\n').some((row) => typed.cell.x + row.length > SIDE)) tell('The page ends here: what goes over its edge is not drawn.');
+    if (lost.length) tell(wording('cannotDraw', { letters: lost.slice(0, 8).join(' ') }));
+    else if (box.value.split('\n').some((row) => typed.cell.x + row.length > SIDE)) tell(wording('pageEnds'));
   }
 
   /** Enter draws, and Shift and Enter begin a new line; in a note Enter does that, and Control and Enter draw. Escape drops a text, and keeps a note.
@@ -159,7 +176,7 @@ export class Typing {
     if (isEnter && !isInk && lost.length) {
       box.value = plain;
       this.check();
-      tell('This is what can be drawn. Enter draws it.');
+      tell(wording('canBeDrawn'));
       return;
     }
     this.end(isEnter || Boolean(isNote));

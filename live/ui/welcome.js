@@ -1,6 +1,7 @@
 /** One's name and colour, which are asked for once. */
 import { COLOURS, FOR_MEMBERS } from './colours.js';
 import { $ } from './dom.js';
+import { wording } from './language.js';
 import { shownOf } from './notes.js';
 import { radio, refill } from './style.js';
 
@@ -56,17 +57,16 @@ export class Welcome {
 
   showColours() {
     refill($('welcome-colours'), FOR_MEMBERS.map((colour) => {
-      const button = radio(COLOURS[colour], colour === this.colour, () => { this.colour = colour; this.showColours(); });
+      const button = radio(wording(COLOURS[colour]), colour === this.colour, () => { this.colour = colour; this.showColours(); });
       button.style.setProperty('--c', this.board.style.tintOf(colour));
       return button;
     }));
   }
 
-  /** The first colour that no other of those here has chosen. */
+  /** A colour that no other of those here has, as far as there are. */
   free() {
-    const { faces, notes, session } = this.board, others = faces.members.filter(({ member }) => member !== session.hello.me);
-    const taken = new Set(others.map(({ member }) => notes.told.colours.get(member)));
-    return FOR_MEMBERS.find((colour) => !taken.has(colour)) ?? FOR_MEMBERS[0];
+    const { faces, session: { hello: { me } } } = this.board;
+    return faces.colours.get(me) ?? FOR_MEMBERS[me % FOR_MEMBERS.length];
   }
 
   /** The form is closed. */

@@ -9,11 +9,13 @@ import { Files } from './files.js';
 import { FilmBar } from './film.js';
 import { Follow } from './follow.js';
 import { Hand, middleOf } from './hand.js';
-import { History, kindOf } from './history.js';
+import { History, hasLetters, kindOf } from './history.js';
 import { reachOf } from './eraser.js';
+import { KINDS, isTyped } from './inkkinds.js';
 import { stayAbove } from './keyboard.js';
 import { keysOf } from './keymap.js';
 import { Keys } from './keys.js';
+import { LOCALE, retold, speak, wording } from './language.js';
 import { Layout } from './layout.js';
 import { Leafing } from './leafing.js';
 import { showHealth, showMembers, showWorse } from './members.js';
@@ -99,10 +101,11 @@ export class Whiteboard {
     const { session, layout, ink } = this, place = `${cell.x}, ${cell.y}`;
     if (this.painter.isInk) {
       const item = ink.grid.itemAt(middleOf(cell), reachOf(this.view));
-      return item ? `${place}   ${kindOf(item.drawings[0])} by ${session.who(item.source)}` : place;
+      return item ? `${place}   ${wording('by', { what: kindOf(item.drawings[0]), who: session.who(item.source) })}` : place;
     }
     const drawing = this.hand.tool === 'restore' ? layout.hiddenAt(cell) : layout.drawingAt(cell);
-    return drawing ? `${place}   ${drawing.op} by ${session.who(drawing.source)}, number ${drawing.seq}, ${when(drawing.time)}` : place;
+    const told = drawing && { what: kindOf(drawing), who: session.who(drawing.source), number: drawing.seq, time: when(drawing.time) };
+    return told ? `${place}   ${wording('byWhen', told)}` : place;
   }
 
   /** What stands at the foot: of ink who drew what is pointed at; of cells what is there, and how large it is that is begun. */
@@ -110,9 +113,9 @@ export class Whiteboard {
     const { hand, ink, session } = this, cell = hand.at(), { gesture, point } = hand;
     if (this.painter.isInk) {
       const item = point && !gesture ? ink.grid.itemAt(point, reachOf(this.view)) : undefined;
-      return item ? `${session.who(item.source)}, ${when(item.drawings[0].time)}` : '';
+      return item ? wording('whoWhen', { who: session.who(item.source), time: when(item.drawings[0].time) }) : '';
     }
-    const size = gesture ? `   ${Math.abs(gesture.to.x - gesture.from.x) + 1} by ${Math.abs(gesture.to.y - gesture.from.y) + 1}` : '';
+    const size = gesture ? `   ${wording('sizeOf', { wide: Math.abs(gesture.to.x - gesture.from.x) + 1, high: Math.abs(gesture.to.y - gesture.from.y) + 1 })}` : '';
     return cell ? this.describe(cell) + size : session.titleOf(session.board.page);
   }
 
@@ -125,10 +128,11 @@ export class Whiteboard {
 
   /** @param {import('./types.js').Hello} hello */
   takeHello(hello) {
-    $('notice').textContent = `${hello.notice} You are member ${hello.me}; ${hello.mode}.`;
+    $('notice').textContent = wording('youAre', { notice: retold(hello.notice), me: hello.me, mode: retold(hello.mode) });
     showProof(hello.proof);
     for (const id of ['clear', 'delete-page']) $(id).disabled = !this.session.mayClear;
     $('clearing').hidden = hello.othersClear === undefined;
+    $('nobody-keeps').hidden = hello.othersClear !== undefined || hello.keeper !== undefined;
     $('others-clear').checked = hello.othersClear !== false;
   }
 
@@ -146,7 +150,7 @@ export class Whiteboard {
 
   /** The page as text, for who listens: its rows, and the letters of its inks. */
   showText() {
-    const letters = [...this.ink.lettered].filter(({ kind }) => kind !== 'text').map((item) => item.letters), text = [...this.session.board.rows, ...letters].join('\n');
+    const letters = [...this.ink.lettered].filter(({ kind }) => !KINDS[kind].isPlain).map((item) => item.letters), text = [...this.session.board.rows, ...letters].join('\n');
     if ($('text').textContent !== text) $('text').textContent = text;
   }
 
@@ -162,9 +166,9 @@ export class Whiteboard {
   tellChange({ gone, added }) {
     const { hello: { me } } = this.session, drawn = added.filter(({ source }) => source !== me), many = gone.length - added.length;
     if (drawn.length < MANY && !this.painter.isInk) drawn.forEach((drawing) => this.painter.cells.mark(drawing));
-    if (drawn.length === 1) say(`${this.session.who(drawn[0].source)} drew ${told(drawn[0])}`);
-    else if (drawn.length) say(`${drawn.length} drawings came`);
-    else if (many > 0) say(many === 1 ? 'a drawing was erased' : `${many} drawings were erased`);
+    if (drawn.length === 1) say(drew(this.session.who(drawn[0].source), drawn[0]));
+    else if (drawn.length) say(wording('came', { n: drawn.length }));
+    else if (many > 0) say(wording('wereErased', { n: many }));
   }
 
   /** Drops what was in hand on the page before, and shows all of the new one.
@@ -174,7 +178,7 @@ export class Whiteboard {
     this.sight.begin();
     this.follow.goAfter();
     this.leaveNotes(board.page);
-    say(`${this.session.titleOf(board.page)}, ${board.drawops.length} drawings`);
+    say(wording('pageHas', { page: this.session.titleOf(board.page), n: board.drawops.length }));
   }
 
   /** The reserved page is turned to by wish alone: a newcomer may hear of it before any other.
@@ -199,7 +203,7 @@ export class Whiteboard {
   /** Erases all that the page shows, as one step. */
   clear() {
     const drawops = [...this.session.board.drawops];
-    if (!drawops.length || !confirm(`Clear the page for everyone? It takes ${drawops.length} drawings of room; Undo brings all back.`)) return;
+    if (!drawops.length || !confirm(wording('askClear', { n: drawops.length }))) return;
     this.hand.change([], drawops);
   }
 
@@ -208,15 +212,15 @@ export class Whiteboard {
   edit(event) {
     if (!this.painter.isInk || event.target instanceof HTMLTextAreaElement || !['select', 'text'].includes(this.hand.tool)) return;
     const item = this.ink.grid.itemAt(this.view.pointAt(event), reachOf(this.view));
-    if (item && ['t', 'n', 'r', 'o', 'd'].includes(item.kind)) this.typing.edit(item);
-    if (item?.kind === 'k') open(item.letters, '_blank', 'noopener,noreferrer');
+    if (item && isTyped(item)) this.typing.edit(item);
+    if (item && KINDS[item.kind].isLink) open(item.letters, '_blank', 'noopener,noreferrer');
   }
 
   /** Has the buttons, the keys and the system's wishes heard. */
   listen() {
     const keys = keysOf(this), undo = () => this.undo(), redo = () => this.steps.redo(), menu = ['clear', 'restore-tool', 'help', 'entitle', 'copy-page', 'delete-page'];
     /** @type {Record<string, () => void>} */
-    const clicks = { glyph: this.openPalette, undo, redo, back: keys['['], forth: keys[']'], new: () => this.session.goToPage(null), help: keys['?'],
+    const clicks = { glyph: this.openPalette, undo, redo, back: keys['['], forth: keys[']'], new: () => this.leafing.begin(), help: keys['?'],
       all: () => this.overview.show(), file: () => $('files').showModal(), smaller: keys['-'], larger: keys['+'], clear: () => this.clear(),
       'copy-page': () => this.leafing.copy(this.session.board.page), 'delete-page': () => this.leafing.remove(this.session.board.page) };
     menu.forEach((id) => $(id).addEventListener('click', () => $('files').close()));
@@ -242,10 +246,10 @@ export class Whiteboard {
     this.view.sheet.focus(/** @type {FocusOptions} */ ({ preventScroll: true, focusVisible: false }));
   }
 
-  /** If somebody has chosen another colour, all is painted again.
-   * @param {Map<number, number>} colours */
-  takeColours(colours) {
-    const told = JSON.stringify([...colours]);
+  /** If somebody has another colour, all is painted again. */
+  takeColours() {
+    this.faces.colour();
+    const told = JSON.stringify([...this.notes.told.colours, ...this.faces.colours]);
     if (told !== this.coloured) this.painter.repaint();
     this.coloured = told;
   }
@@ -263,7 +267,7 @@ export class Whiteboard {
     session.on('hello', (hello) => this.takeHello(hello));
     session.on('board', (board, taken) => this.takeBoard(board, taken));
     session.on('ghosts', () => this.painter.soon());
-    session.on('notes', ({ colours }) => this.takeColours(colours));
+    session.on('notes', () => this.takeColours());
     session.on('fault', tell);
     this.ink.changed = () => { this.sight.show(); this.showText(); this.showChosen(); };
     for (const show of [showChat, showMembers, showHealth, showWorse]) show(this);
@@ -276,24 +280,25 @@ export class Whiteboard {
   }
 }
 
-/** A drawing in words, for those who listen.
- * @param {Drawing} drawing */
-function told(drawing) {
-  const kind = kindOf(drawing);
-  if (drawing.op === 'text') return kind.startsWith('“') ? `a text: ${kind}` : `a ${kind}`;
-  return `a ${drawing.op} at ${drawing.x0}, ${drawing.y0}`;
+/** What somebody drew in words, for those who listen.
+ * @param {string} who @param {Drawing} drawing */
+function drew(who, drawing) {
+  const what = kindOf(drawing);
+  if (drawing.op === 'text') return wording(hasLetters(drawing) ? 'drewText' : 'drewKind', { who, what });
+  return wording('drewAt', { who, what, place: `${drawing.x0}, ${drawing.y0}` });
 }
 
 /** When a drawing was made; a number outside these years is shown as it is.
  * @param {string} time microseconds of the day */
 function when(time) {
   const date = new Date(Number(time) / 1000), isLikely = Number(date) > Date.UTC(2000, 0) && Number(date) < Date.UTC(2200, 0);
-  return isLikely ? date.toLocaleTimeString() : `time ${time}`;
+  return isLikely ? date.toLocaleTimeString(LOCALE) : wording('timeIs', { time });
 }
 
 /** Opens the whiteboard of a member in the page, and gives a handle on its parts for tests and for who looks in from a console.
  * @param {Member} member */
 export function openWhiteboard(member) {
+  speak();
   const board = new Whiteboard(member);
   Object.assign(globalThis, { wb: board });
   board.begin();

@@ -1,5 +1,6 @@
 // What the scripts of the page do by themselves: `node --test tests/browser/units.test.mjs`.
 import crypto from 'node:crypto';
+import { readFileSync } from 'node:fs';
 import test from 'node:test';
 import { Alarms } from '../../web/member/alarms.js';
 import { Drawn } from '../../web/member/drawn.js';
@@ -78,8 +79,8 @@ function testInvitations() {
 
 /** The line that the panel shows for others tells nothing of one's own name and password at the broker. */
 function testInviting() {
-  const element = () => ({ value: '', children: [], append(...more) { this.children.push(...more); }, addEventListener() {}, querySelector() { return this.children[0]; } });
-  Object.assign(globalThis, { document: { createElement: element }, location: { href: 'https://example.org/wb/#session=a' } });
+  const element = () => ({ value: '', children: [], append(...more) { this.children.push(...more); }, addEventListener() {}, setAttribute() {}, querySelector() { return this.children[0]; } });
+  Object.assign(globalThis, { document: { createElement: element, createElementNS: element }, location: { href: 'https://example.org/wb/#session=a' } });
   if (!('navigator' in globalThis)) globalThis.navigator = {};
   for (const login of ['name:word@', 'name@', '']) {
     const own = { session: 'maths-2', broker: `wss://${login}example.org:9001/mqtt`, key: 'A'.repeat(43), more: { lose: '0.3' } };
@@ -124,6 +125,18 @@ async function testEnvelope() {
   await one.take(bytes(VECTOR.will), { place: 'wb/board/ann', owner: 'ann' });
   const gone = readGone(bytes(taken[1][0]));
   check('a last will names a tag, under another', [gone, taken[1][1].place, one.goneBy(gone, taken[1][1])], [VECTOR.tag, 'ann/7edcba9876543210', taken[0][1]]);
+}
+
+/** The vectors of docs/vectors/sealed.json. */
+async function testSealVectors() {
+  const vectors = JSON.parse(readFileSync(new URL('../../docs/vectors/sealed.json', import.meta.url), 'utf8')), seal = await Seal.of(vectors.key, vectors.session);
+  const bytes = (digits) => new Uint8Array(Buffer.from(digits, 'hex')), opened = async (digits) => seal.open(bytes(digits));
+  for (const it of vectors.datagrams) {
+    check(`sealed: ${it.what}`, Buffer.from(await seal.close(writeEnvelope(vectors.sender, BigInt(it.counter), bytes(it.datagram)), bytes(it.nonce))).toString('hex'), it.sealed);
+    const { tag, counter, bytes: inner } = readEnvelope(await opened(it.sealed));
+    check(`opened: ${it.what}`, [tag, Number(counter), Buffer.from(inner).toString('hex')], [vectors.sender, it.counter, it.datagram]);
+  }
+  for (const it of vectors.dropped) check(it.why, readEnvelope(await opened(it.sealed) ?? new Uint8Array()), null);
 }
 
 async function testSealed() {
@@ -343,6 +356,6 @@ async function testDatabase() {
   check('what waited when a record was removed is not written', database.noted.map(([what, value]) => [what, value.length ?? value.me]), [['put', 16], ['put', 7], ['delete', 3], ['delete', 2]]);
 }
 
-const TESTS = [testBlocks, testWords, testDatagrams, testDrawn, testInvitations, testInviting, testSeal, testEnvelope, testSealed, testCounters, testPackets, testBrokers, testInbox, testWire, testWireBounds,
+const TESTS = [testBlocks, testWords, testDatagrams, testDrawn, testInvitations, testInviting, testSeal, testEnvelope, testSealVectors, testSealed, testCounters, testPackets, testBrokers, testInbox, testWire, testWireBounds,
   testPresence, testPresences, testAlarms, testRecords, testDatabase, testReported, testJudging, testTails, testConstants];
 for (const each of TESTS) test(each.name.slice('test'.length), each);

@@ -81,6 +81,8 @@ def check_impostor(facts: Facts, held: Carried) -> None:
     for member in held.members:
         told = member.wait_for(lambda states: any("speaks for member %d" % VICTIM in text for text in states["health"]["warnings"]))
         facts("who speaks for another is told by member %d" % member.me, told, True)
+        # the warning may come with the first of them
+        member.wait_for(lambda _: {it["kind"] for it in list(member.entries) if it["from"] == "mallory" and not it["lost"]} >= set(forged))
         came: Dict[str, List[Any]] = {kind: [] for kind in forged}
         for entry in list(member.entries):
             if entry["from"] == "mallory" and not entry["lost"]:

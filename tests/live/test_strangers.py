@@ -27,8 +27,8 @@ PAGE, HOME = "1/1", (1, 1)
 FORGED_PAGE = "9/9"
 FORGED = (9, 9)
 
-# seconds in which something comes, and for which it is watched that nothing happens
-SOON, WHILE = 20, 4
+# seconds in which something comes, in which a new number is taken, and for which it is watched that nothing happens
+SOON, TAKEN, WHILE = 20, 8, 4
 
 # how far ahead a forger tells the time, in microseconds
 AHEAD = 86_000 * 1_000_000
@@ -258,7 +258,10 @@ def test_forged_twin(facts: Facts) -> None:
         numbers = [member.me]
         for row in range(1, MOST_PARTINGS + 1):
             speak_for(ear, numbers[-1])
-            facts("it takes a new number by itself", member.wait_for(lambda states: states["hello"]["me"] != numbers[-1]), True)
+            takes = member.wait_for(lambda states: states["hello"]["me"] != numbers[-1], TAKEN)
+            facts("it takes a new number by itself", takes, True)
+            if not takes:
+                return  # nothing below can be so
             numbers.append(member.states["hello"]["me"])
             facts("and draws on", (member.draw(PAGE, "line 0 %d 4 %d a" % (row, row))[0], member.states["hello"]["twin"]), (200, False))
         told = "somebody else spoke under our number %d: we draw on as member %d" % (numbers[0], numbers[1])

@@ -24,7 +24,7 @@ CHOSEN = """(() => {
 })()"""
 
 # seconds after which something is a step of its own
-SOON = 0.5
+SOON = 1.5
 
 # a rectangle about the second word of the line
 SECOND: list[Point] = [(340, 190), (450, 260), (560, 330)]
@@ -108,6 +108,9 @@ def test_order(tally: Tally, anna: Sheet, tom: Sheet) -> None:
     anna.page.click(*at(anna, (202, 465))[0])
     anna.press("#chosen-front")
     tally.check("the lower one is in front", anna.page.wait(f"{kinds} === '6,1'") and tom.page.wait(f"{kinds} === '6,1'"))
+    anna.page.until("wb.hand.selection.size && !wb.session.waiting.size")
+    anna.press("#chosen-back")
+    tally.check("and at the back again", anna.page.wait(f"{kinds} === '1,6'") and tom.page.wait(f"{kinds} === '1,6'"))
 
 
 def test_after(tally: Tally, anna: Sheet, tom: Sheet) -> None:

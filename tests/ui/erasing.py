@@ -98,9 +98,19 @@ def test_switch(tally: Tally, browser: Browser, room: Path, ports: int) -> None:
         anna, tom = sheets
         for sheet in sheets:
             sheet.page.until("typeof wb !== 'undefined' && wb.session.hello.ready && wb.session.board.page")
+        tom.press("#invite-code")
+        tally.check("one click shows the address as a code", tom.page.wait("document.querySelector('#inviting[open] svg.code path').getBoundingClientRect().width > 200"))
+        tally.check("which others open", tom.page.value("document.getElementById('inviting-line').value") == keeper.address
+                    and tom.page.value("document.getElementById('inviting-here').hidden") is False)
+        tom.press("#inviting form button")
         anna.unfold("#others-clear")
         tally.check("the keeper's window has a switch", anna.page.value("document.getElementById('others-clear').checked") is True)
         tom.press("#fold")
+        tally.check("the program's own member is no guest", tom.page.wait("[...document.querySelectorAll('#members li')].at(-1).textContent === 'The boardkeeps what is drawnFollow'")
+                    and tom.page.wait("document.querySelectorAll('#faces li').length === 2"), tom.text_of("members"))
+        tally.check("two who chose no colour have two", tom.page.wait("new Set(wb.faces.members.map(({ member }) => wb.painter.tintOf(member))).size === 2")
+                    and [sheet.page.value("JSON.stringify(wb.faces.members.map(({ member }) => [member, wb.painter.tintOf(member)]).sort())") for sheet in sheets][0]
+                    == tom.page.value("JSON.stringify(wb.faces.members.map(({ member }) => [member, wb.painter.tintOf(member)]).sort())"))
         tally.check("another has none", tom.page.value("document.getElementById('clearing').hidden") is True and not tom.page.value("document.getElementById('clear').disabled"))
         anna.press("#others-clear")
         tally.check("switched off, others clear and delete no pages", is_off(tom))

@@ -127,7 +127,7 @@ const UNITS = 6.4;
 const handOf = (many, at) => Array.from({ length: many }, (_, i) => at(i)).map(({ x, y }) => ({ x: UNITS * Math.round(x), y: UNITS * Math.round(y) }));
 
 function testHands() {
-  const look = { kind: 's', colour: 0, width: 2, scale: 1 }, near = 0.55 * UNITS;
+  const look = { kind: 's', colour: 0, width: 2, scale: 1, isFree: true }, near = 0.55 * UNITS;
   const hands = { straight: [handOf(120, (i) => ({ x: 300 + 7.5 * i, y: 400 })), 1], slanted: [handOf(120, (i) => ({ x: 300 + 6 * i, y: 400 + 4.5 * i })), 1],
     circle: [handOf(240, (i) => ({ x: 900 + 150 * Math.cos(i / 38), y: 900 + 150 * Math.sin(i / 38) })), 2],
     wave: [handOf(240, (i) => ({ x: 300 + 4 * i, y: 900 + 60 * Math.sin(i / 12) })), 2],
@@ -146,6 +146,18 @@ function testHands() {
   check('and up to its end straight within two units, a third of a point of the screen', ways.filter(({ to, texts: [{ points }] }) => Math.max(...points.slice(0, -1).map((point) => beside(point, to))) > 2), []);
   check('a dot', fitted([{ x: 5.4, y: 7.6 }], 1), [{ x: 5, y: 8 }]);
   check('what else a point has stays', fitted([{ x: 1, y: 1, i: 7 }, { x: 9, y: 1, i: 8 }], 1).map(({ i }) => i), [7, 8]);
+}
+
+/** Points that may lie elsewhere on the curve: each text reads, and ends and corners are met. */
+function testFree() {
+  const chance = chanceOf(11);
+  for (let n = 0; n < 60; n += 1) {
+    const scale = n % 8, points = strokeOf(chance, scale), look = { kind: 'svh'[n % 3], colour: chance(10), width: chance(9), scale, isFree: true }, texts = writeStroke(look, points).map(({ text }) => text);
+    check(`texts of a free stroke read, ${n}`, texts.filter((text) => !readInk(text)), []);
+    const items = itemsOf(drawings(texts)), ends = points.filter((_, i) => i === 0 || i === points.length - 1 || points[i].up || points[i + 1].up);
+    check(`a free stroke is one item, ${n}`, items.length, Math.ceil(texts.length / 256));
+    check(`its ends are met, ${n}`, missed(ends, items.flatMap((item) => item.points), 2.5 * 2 ** scale, false), []);
+  }
 }
 
 /** A stroke in pieces, each sent when its text is full, is the stroke written at once. */
@@ -211,9 +223,10 @@ function testText() {
 
 function testSvg() {
   const svg = (...texts) => svgOfInk(itemsOf(drawings(texts)), { colourOf: ({ colour }) => `c${colour}`, shades: { colours: { paper: 'white', ink: 'black' } } }, 'a <page>');
-  const lines = [...svg('~v%0!({!/&!dOOdO}').matchAll(/<line x1="([\d.]+)" y1="([\d.]+)" x2="([\d.]+)" y2="([\d.]+)" stroke-width="([\d.]+)"/g)].map((found) => found.slice(1).map(Number));
-  check('a stroke with pressure has its widths', [lines.length, lines[5], lines[11]], [12, [656.7, 1200, 660, 1200, 22], [676.7, 1200, 680, 1200, 35.2]]);
-  check('a dot with pressure', [...svg('~v%0!({!/&!').matchAll(/stroke-width="([\d.]+)"/g)].map(([, wide]) => wide), ['8.8']);
+  const filled = (text) => [...svg(text).matchAll(/<path d="([^"]*)" fill="c0"/g)].map(([, way]) => way).join();
+  check('a stroke with pressure has its widths, 8.8, 22 and 35.2, and round ends', filled('~v%0!({!/&!dOOdO}'),
+    'M640 1195.6L660 1189L680 1182.4L680 1217.6L660 1211L640 1204.4ZM635.6 1200a4.4 4.4 0 1 1 8.8 0a4.4 4.4 0 1 1 -8.8 0ZM662.4 1200a17.6 17.6 0 1 1 35.2 0a17.6 17.6 0 1 1 -35.2 0Z');
+  check('a dot with pressure', filled('~v%0!({!/&!'), 'M635.6 1200a4.4 4.4 0 1 1 8.8 0a4.4 4.4 0 1 1 -8.8 0Z');
   check('strokes, a highlighter below them', [...svg('~s]1!#*!#*YO~T8OaOd', '~hC2!!!!!!sOsP').matchAll(/<path d="(\w)[^"]*" stroke="(\w+)" stroke-width="([\d.]+)"/g)].map((found) => found.slice(1)),
     [['M', 'c3', '192'], ['M', 'c6', '34']]);
   check('a path has a part for each lift', svg('~s]1!#*!#*YO~T8OaOd').match(/d="([^"]*)"/)[1], 'M100 100C106.7 100 113.3 100 120 100M900 40C900 53.3 900 66.7 900 80');
@@ -297,6 +310,6 @@ if (word === 'read') {
   const { texts, boards } = JSON.parse(readFileSync(0, 'utf8'));
   process.stdout.write(JSON.stringify({ texts: texts.map((text) => toldInk(readInk(text))), boards: boards.map(toldItems) }));
 } else {
-  for (const test of [testVectors, testBack, testSigns, testLetters, testStrokes, testCurves, testHands, testPieces, testShapes, testText, testSvg, testMoves, testLines, testOrders]) test(vectors);
+  for (const test of [testVectors, testBack, testSigns, testLetters, testStrokes, testCurves, testHands, testFree, testPieces, testShapes, testText, testSvg, testMoves, testLines, testOrders]) test(vectors);
   console.log(JSON.stringify({ checked, wrong }));
 }

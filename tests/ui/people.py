@@ -67,7 +67,8 @@ def test_chat(tally: Tally, one: Sheet, other: Sheet, name: str) -> None:
     one.press("#saying")
     one.page.call("Input.insertText", text="word " * 40)
     one.page.key("Enter")
-    tally.check("a long one in pieces", other.page.wait(f"document.querySelectorAll('#log li').length >= {lines} + 3"), other.text_of("log"))
+    long = f"document.querySelectorAll('#log li').length === {lines} + 1 && document.querySelector('#log li:last-child span').textContent === {json.dumps(('word ' * 40).strip())}"
+    tally.check("a long one is one, though it goes in pieces", other.page.wait(long), other.text_of("log"))
     one.fold()
 
 

@@ -2,12 +2,13 @@
 
 from __future__ import annotations
 
+import json
 import shutil
 import subprocess
 
 import pytest
 
-from ..node import run_tests
+from ..node import find_node, run_tests
 from .sheets import TOP
 
 PAGE = TOP / "live" / "ui"
@@ -30,6 +31,26 @@ def test_types() -> None:
 
 def test_units() -> None:
     run_tests(HERE / "units.test.mjs")
+
+
+def test_kinks() -> None:
+    run_tests(HERE / "kinks.test.mjs")
+
+
+def test_scancodes() -> None:
+    """Each code is one that qrencode makes, but for the mask, which either may choose."""
+    node, program = find_node(), shutil.which("qrencode")
+    if not program:
+        pytest.skip("there is no qrencode here (apt-get install qrencode)")
+    texts = ["a", "http://192.168.1.20:8050/db865d0c9e1f4a67b2c3d4e5f6071829/", "Gr\u00f6\u00dfe \u6f22", *("x" * many for many in (14, 15, 180, 181, 300, 500, 666))]
+    printed = subprocess.run([node, HERE / "scancodes.mjs"], input=json.dumps([*texts, "x" * 667]), stdout=subprocess.PIPE, text=True, check=True).stdout
+    *codes, too_long = json.loads(printed)
+    for text, code in zip(texts, codes):
+        drawn = subprocess.run([program, "-8", "-l", "M", "-m", "0", "-t", "ASCII", "-o", "-"], input=text.encode(), stdout=subprocess.PIPE, check=True).stdout.decode().splitlines()
+        wanted = [row[::2].replace("#", "1").replace(" ", "0") for row in drawn if row]
+        assert wanted in code["masks"], text
+        assert code["chosen"] in code["masks"], text
+    assert too_long["chosen"] is None
 
 
 def test_names() -> None:

@@ -18,6 +18,19 @@ STROKES, FEW_REQUESTS, SOON = 300, 16, 2.0
 # milliseconds from a window to the program and back
 DELAY = 50
 
+# of a slow line: milliseconds to the program and back, and bytes a second; and seconds until the page takes a stroke
+FAR, RATE, FIRST = 60, 5_000_000 / 8, 1.5
+
+# when the page takes a stroke, and when one was drawn, in milliseconds since it was asked for
+MOMENTS = """{
+    const look = setInterval(() => {
+        if (typeof wb === 'undefined' || !wb.session.board.page || !wb.session.hello.ready) return;
+        window.taken = performance.now();
+        clearInterval(look);
+        addEventListener('pointerup', () => requestAnimationFrame(() => { window.drawn ??= performance.now(); }));
+    }, 5);
+}"""
+
 SIZE = "performance.getEntriesByType('navigation').concat(performance.getEntriesByType('resource')).reduce((sum, { transferSize }) => sum + transferSize, 0)"
 IS_OPEN = "typeof wb !== 'undefined' && wb.session.hello.ready && wb.session.board.page"
 IS_DONE = "!wb.session.member.queue.length && !wb.session.waiting.size && !wb.ink.waiting.length"
@@ -86,5 +99,28 @@ def test_many(tally: Tally, browser: Browser, tmp_path: Path) -> None:
         if os.environ.get("WB_MEASURE"):
             tally.check("soon", seconds < SOON, told)
         tally.check("no fault in a page, and none of its policy", not browser.faults, "; ".join(browser.faults))
+    finally:
+        member.end()
+
+
+def test_first(tally: Tally, browser: Browser, tmp_path: Path) -> None:
+    """Over a slow line the page takes a stroke soon after it is asked for, with nothing of it in the browser."""
+    member = Member(tmp_path, 0, "127.0.0.1:0", ["--record", str(tmp_path / "a.record")])
+    try:
+        for _ in range(3):
+            page = browser.open("data:text/html,-", 1280, 800, first=f"if (location.protocol === 'http:') {{ {BY_CELLS} {MOMENTS} }}", is_apart=True)
+            page.call("Network.enable")
+            page.call("Network.emulateNetworkConditions", offline=False, latency=FAR, downloadThroughput=RATE, uploadThroughput=RATE)
+            page.call("Page.navigate", url=member.address)
+            page.until("window.taken")
+            page.drag((400, 300), (500, 360))
+            page.until("window.drawn && wb.session.shown.size > 0")
+            taken, drawn = (float(page.value(f"window.{name}")) / 1000 for name in ("taken", "drawn"))
+            told = f"a page {FAR} ms away at 5 Mbit/s takes a stroke after {taken:.2f} s, and had one after {drawn:.2f} s, with a load of {os.getloadavg()[0]:.1f}"
+            print(told)
+            tally.check("it is drawn, and without a fault", not browser.faults, "; ".join(browser.faults))
+            if os.environ.get("WB_MEASURE"):
+                tally.check("soon", taken < FIRST, told)
+            page.close()
     finally:
         member.end()

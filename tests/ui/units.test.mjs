@@ -2,11 +2,12 @@
 import test from 'node:test';
 import { boxAbout, cover, coverLine, kept, orderOf, shifted, spell, touches } from '../../live/ui/cells.js';
 import { shapeOf, shapesOf } from '../../live/ui/clipboard.js';
-import { colourOf } from '../../live/ui/colours.js';
+import { DAY, FOR_MEMBERS, NIGHT, colourOf, coloursFor } from '../../live/ui/colours.js';
 import { HttpMember } from '../../live/ui/connection.js';
 import { htmlOf, svgOf, textOf } from '../../live/ui/exports.js';
 import { clockOf, sceneAt } from '../../live/ui/film.js';
 import { Grid } from '../../live/ui/grid.js';
+import { ruled } from '../../live/ui/ground.js';
 import { readInk } from '../../live/ui/ink.js';
 import { itemAt, meets } from '../../live/ui/inkfind.js';
 import { itemsOf } from '../../live/ui/inkitems.js';
@@ -87,6 +88,29 @@ function testColours() {
   check('neighbours differ', new Set([...Array(32).keys()].map((n) => colourOf(n + 1, false))).size, 32);
 }
 
+/** How eyes see colours of a screen, as red, green and blue in linear light (Machado, Oliveira and Fernandes 2009): all of them, and those without red,
+ * green or blue. */
+const EYES = [[[1, 0, 0], [0, 1, 0], [0, 0, 1]], [[0.152286, 1.052583, -0.204868], [0.114503, 0.786281, 0.099216], [-0.003882, -0.048116, 1.051998]],
+  [[0.367322, 0.860646, -0.227968], [0.280085, 0.672501, 0.047413], [-0.01182, 0.04294, 0.968881]], [[1.255528, -0.076749, -0.178779], [-0.078411, 0.930809, 0.147602], [0.004733, 0.691367, 0.3039]]];
+
+/** How far two colours are apart in Oklab, of which 0.02 is just seen. */
+function apart(one, other, eyes) {
+  const linear = (c) => (c <= 0.04045 ? c / 12.92 : ((c + 0.055) / 1.055) ** 2.4), times = (rows, parts) => rows.map((row) => row.reduce((sum, part, i) => sum + part * parts[i], 0));
+  const [a, b] = [one, other].map((colour) => {
+    const cones = times([[0.4122214708, 0.5363325363, 0.0514459929], [0.2119034982, 0.6806995451, 0.1073969566], [0.0883024619, 0.2817188376, 0.6299787005]],
+      times(eyes, [1, 3, 5].map((i) => linear(parseInt(colour.slice(i, i + 2), 16) / 255))));
+    return times([[0.2104542553, 0.793617785, -0.0040720468], [1.9779984951, -2.428592205, 0.4505937099], [0.0259040371, 0.7827717662, -0.808675766]], cones.map((part) => Math.cbrt(Math.max(0, part))));
+  });
+  return Math.hypot(...a.map((part, i) => part - b[i]));
+}
+
+function testPeoplesColours() {
+  const four = FOR_MEMBERS.slice(0, 4), pairs = four.flatMap((a, i) => four.slice(0, i).map((b) => [a, b]));
+  check('four people have four colours, for all eyes, by day and by night', [DAY, NIGHT].flatMap((page) => EYES.flatMap((eyes) => pairs.filter(([a, b]) => apart(page[a], page[b], eyes) < 0.07))), []);
+  check('who chose none has one that nobody has', [...coloursFor([40, 7, 22, 9], new Map([[22, 7], [99, 3]]))], [[7, 3], [9, 5], [40, 1]]);
+  check('as far as there are', [...coloursFor([...Array(12).keys()], new Map())].length, 8);
+}
+
 /** What became of a page whose drawings are others now. */
 const taken = (before, after) => ({ isTurned: false, gone: before.filter((drawing) => !after.includes(drawing)), added: after.filter((drawing) => !before.includes(drawing)) });
 
@@ -146,6 +170,10 @@ function testNotes() {
   check('what was said', told.said.map(({ source, text: words }) => [source, words]), [[1, 'hello']]);
   check('the first free row', told.row, 17);
   check('colours: the last counts, and an empty one takes it back', [...told.colours], [[1, 4]]);
+  const papers = readNotes([at(1, 'paper 1/1 squares'), at(2, 'paper 1/1 lines', 2), at(3, 'paper 1/2 wood'), at(4, 'paper 1/3'), at(5, 'paper~ 1/3 lines')]).papers;
+  check('paper: the last word counts', [...papers], [['1/1', 'lines']]);
+  check('squares in a box', ruled('squares', { x0: -1, y0: 100, x1: 200, y1: 400 }), 'M0 100V400M192 100V400M-1 192H200M-1 384H200');
+  check('lines, dots and none', ['lines', 'dots', 'none'].map((paper) => ruled(paper, { x0: 5, y0: 10, x1: 300, y1: 800 })), ['M5 384H300M5 768H300', '', '']);
   check('where the board goes on, and who said so', told.next, { session: 'class-3', source: 2 });
   check('initials', [initialsOf('Ada Lovelace', 1), initialsOf('grace', 2), initialsOf(undefined, 1234567), initialsOf('!', 9)], ['AL', 'GR', '67', '9']);
   check('initials of all languages', [initialsOf('\u00e9mile \u00d8', 1), initialsOf('\u5c71\u7530 \u82b1\u5b50', 2), initialsOf('\ud83d\ude00\ud801\udc00\ud801\udc01', 3)], ['\u00c9\u00d8', '\u5c71\u82b1', '\ud801\udc00\ud801\udc01']);
@@ -157,7 +185,9 @@ function testLetters() {
   const long = 'Gr\u00f6\u00dfe \u2248 \u6f22 \ud83d\ude00 ~ "x" \\ '.repeat(6).trim(), pieces = spoken('say', '', long);
   check('what is ASCII stands as it is', spoken('say', '', 'a ~ "b"'), ['say a ~ "b"']);
   check('what is not is in signs', spoken('title', '1/1 ', 'J\u00fcrgen'), ['title~ 1/1 J~#Brgen']);
-  check('a long one in pieces', [pieces.length > 2, pieces.every((each) => each.length <= 64 && each.startsWith('say~ ')), said(pieces).join('').replaceAll(' ', '')], [true, true, long.replaceAll(' ', '')]);
+  check('a long one in pieces', [pieces.length > 2, pieces.every((each) => each.length <= 64 && each.startsWith('say~ ')), said(pieces)], [true, true, [long]]);
+  check('a text that is not full ends what is said', said(['say one', 'say two']), ['one', 'two']);
+  check('one that comes later begins another', readNotes([at(pieces[0], 0), { ...at('say x', 1), time: '9000000' }]).said.length, 2);
   check('what does not read says nothing', said(['say~ ~', 'say~ x~}', 'say ~', 'say~', 'say']), ['~']);
   check('names and titles', (({ names, titles }) => [...names.values(), ...titles.values()])(readNotes(['name~ J~#Brgen', 'title~ 1/1 ~#B', 'title~ x', 'name~ ~~'].map(at))), ['J\u00fcrgen', '\u00fc']);
   check('what is seen by nobody is left out', readNotes(spoken('name', '', 'a\u202eb\u200dc\u0085d').map(at)).names.get(1), 'ab\u200dcd');
@@ -376,4 +406,4 @@ async function testAskedAgain() {
 }
 
 for (const each of [testSession, testBeside, testGrid, testChanges, testNotes, testLetters, testLeaves, testErased, testStretch, testState, testExports,
-  testFilm, testCells, testShapes, testTexts, testWords, testColours, testLayout, testFlood, testOrder, testLateAnswers, testAskedAgain]) test(each.name.slice('test'.length), each);
+  testFilm, testCells, testShapes, testTexts, testWords, testColours, testPeoplesColours, testLayout, testFlood, testOrder, testLateAnswers, testAskedAgain]) test(each.name.slice('test'.length), each);

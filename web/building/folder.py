@@ -24,7 +24,7 @@ OF_HTTP = ("start.js", "connection.js")
 
 # lines of the page's index.html, and what stands there instead
 EDITS = [
-    ('<meta name="wb-token" content="__TOKEN__">\n',
+    ('<meta name="wb-token" content="__TOKEN__">\n<meta name="wb-address" content="__ADDRESS__">\n',
      '<meta http-equiv="Content-Security-Policy" content="%s">\n<meta name="referrer" content="no-referrer">\n' % POLICY),
     ('<link rel="stylesheet" href="page/style.css">\n',
      '<link rel="stylesheet" href="live/ui/style.css">\n<link rel="stylesheet" href="web/member/panel.css">\n'

@@ -1,13 +1,11 @@
 /** The page of ./wb --page: the whiteboard over a member of its own, in a worker. */
 import { tell } from '../../live/ui/dom.js';
+import { retold, speak, wording } from '../../live/ui/language.js';
 import { openWhiteboard } from '../../live/ui/whiteboard.js';
 import { BUILT } from './built.js';
 import { readInvitation, writeInvitation } from './invitation.js';
 import { Panel } from './panel.js';
 import { WorkerMember } from './worker_member.js';
-
-const NOTICE = 'The board is kept by the proved library of a host, compiled another way than it was proved for: for browsers. '
-  + 'This page, its network and its clock are not proved. Members are not authenticated: whoever has the invitation can draw, under any number.';
 
 /** The number that this tab had in a session, which lasts over a reload.
  * @param {import('./invitation.js').Invitation} invitation */
@@ -16,7 +14,7 @@ const placeOf = ({ session, broker }) => `wb ${location.pathname} ${broker} ${se
 function begin() {
   const invitation = readInvitation(location.hash), place = placeOf(invitation), kept = sessionStorage.getItem(place);
   const folder = new URL('.', document.baseURI).href;
-  const worker = new WorkerMember({ folder, invitation, me: kept === null ? null : Number(kept), notice: NOTICE });
+  const worker = new WorkerMember({ folder, invitation, me: kept === null ? null : Number(kept), notice: wording('noticeOfPage') });
   // a board that goes on is a session of another name, which the same broker carries under the same key
   const member = Object.assign(worker, { next: async (/** @type {string} */ session) => ({ ok: true, address: writeInvitation({ ...invitation, session }) }) });
   const board = openWhiteboard(member), panel = new Panel(invitation, BUILT);
@@ -31,7 +29,8 @@ function begin() {
 try {
   begin();
 } catch (fault) {
-  tell(`This address is no invitation: ${/** @type {Error} */ (fault).message}`);
+  speak();
+  tell(wording('noInvitation', { why: retold(/** @type {Error} */ (fault).message) }));
 }
 
 // another invitation is another session

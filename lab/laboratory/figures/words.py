@@ -48,18 +48,17 @@ def table(heads: Sequence[str], records: Sequence[Record], cells: Callable[[Reco
     return "\n".join([*lines, *("| " + " | ".join(cells(record)) + " |" for record in records)])
 
 
-def apart(name: str, section: str) -> tuple[str, str]:
-    """A section whose long tables are links to a page of their own, and that page, which is empty if there are none."""
+def apart(name: str, section: str) -> str:
+    """A section in whose place of long tables stands a link to the table of its figure, which has what they have."""
     found: list[str] = []
 
     def moved(match: re.Match[str]) -> str:
         if match[0].count("\n") <= MOST_LINES:
             return match[0]
-        found.append(match[0].strip())
-        return f"[Its table](laboratory/{name}.md).\n" if len(found) == 1 else ""
+        found.append(match[0])
+        return f"[Its table](laboratory/{name}.csv).\n" if len(found) == 1 else ""
 
-    short = re.sub(r"(?:^\|.*(?:\n|$))+", moved, section + "\n", flags=re.MULTILINE)
-    return short.rstrip("\n"), f"# {name}\n\n" + "\n\n".join(found) + "\n" if found else ""
+    return re.sub(r"(?:^\|.*(?:\n|$))+", moved, section + "\n", flags=re.MULTILINE).rstrip("\n")
 
 
 def put(page: str, name: str, section: str) -> str:
