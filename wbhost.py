@@ -12,9 +12,12 @@ sys.path.insert(1, str(TOP / "python"))
 from wb.blocks import Block, number_of, rows_of  # noqa: E402
 from wb.child import LINES, PATIENCE, Child, HostEnded  # noqa: E402
 from wb.child import ChildHost as Host  # noqa: E402
+from wb.ink import FIRST_ROW, SIGNS, Ink  # noqa: E402
+from wb.ink import read as read_ink  # noqa: E402
 from wb.program import NoProgram  # noqa: E402
 
-__all__ = ["LAUNCHER", "LINES", "PATIENCE", "Block", "Child", "Host", "HostEnded", "NoProgram", "find_program", "number_of", "prove_program", "rows_of"]
+__all__ = ["FIRST_ROW", "LAUNCHER", "LINES", "PATIENCE", "SIGNS", "Block", "Child", "Host", "HostEnded", "Ink", "NoProgram", "find_program", "number_of",
+           "prove_program", "read_ink", "rows_of"]
 
 LAUNCHER = TOP / "wb"
 

@@ -10,7 +10,7 @@ const member = await Member.open(Number(me), {
   bind: { address, port: Number(port) },
   to: others.map((other) => ({ address, port: Number(other) })),
 });
-member.on('change', (page) => console.log(member.host.show(page, 40, 3).join('\n')));
+member.on('change', (page) => console.log(member.host.show(page, 40, 12).join('\n')));
 for await (const line of createInterface({ input: process.stdin })) {
   await member.draw('1/1', line).catch((fault) => console.error(fault.message));
 }

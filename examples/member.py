@@ -28,7 +28,7 @@ async def main(me, port, record, *others):
 
         async def show():
             async for page in member.changes():
-                print("\n".join(member.host.show(page, 40, 3)), flush=True)
+                print("\n".join(member.host.show(page, 40, 12)), flush=True)
 
         await asyncio.gather(draw(), show())
 

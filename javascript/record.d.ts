@@ -39,18 +39,11 @@ export class RecordedHost extends Host {
     /** @param {string} board for a new record @param {number} rate @param {number} listen */
     begin(board: string, rate: number, listen: number): void;
     /** What a call came to, once its record is written.
-     * @param {Answer} answer */
-    kept(answer: Answer): Answer;
+     * @param {Answer} answer @param {Uint8Array} [datagram] */
+    kept(answer: Answer, datagram?: Uint8Array | undefined): import("./wb.js").Told;
     /** Tells it the time of day, in microseconds since 1970, and gives what is to be sent.
      * @param {number} now @param {number} time */
     told(now: number, time: number): Uint8Array[];
-    /** @param {number} now @param {number | bigint} time @param {string} page @param {string} operation */
-    add(now: number, time: number | bigint, page: string, operation: string): Answer & {
-        send: Uint8Array[];
-        due: number | null;
-        became: import("./host.js").Became;
-        warning: string;
-    };
 }
 import { Host } from "./wb.js";
 import { Answer } from "./wb.js";

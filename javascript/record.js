@@ -140,16 +140,16 @@ export class RecordedHost extends Host {
   }
 
   /** What a call came to, once its record is written.
-   * @param {Answer} answer */
-  kept(answer) {
+   * @param {Answer} answer @param {Uint8Array} [datagram] */
+  kept(answer, datagram) {
     this.record.add(answer.records);
     if (answer.dropped !== null) answer.refused = `dropped ${answer.dropped}`;
-    return this.heed(answer);
+    return this.heed(answer, datagram);
   }
 
   /** @param {number} now @param {Uint8Array} datagram @param {bigint} [place] */
   came(now, datagram, place = 0n) {
-    return this.kept(this.live().cameFrom(now, { place, owner: null }, datagram));
+    return this.kept(this.live().cameFrom(now, { place, owner: null }, datagram), datagram);
   }
 
   /** Tells it the time of day, in microseconds since 1970, and gives what is to be sent.
@@ -167,21 +167,43 @@ export class RecordedHost extends Host {
     return answer;
   }
 
-  /** @param {number} now @param {number | bigint} time @param {string} page @param {string} operation */
-  add(now, time, page, operation) {
-    const sent = this.told(now, Number(time)), line = `add ${now} ${page} ${operation}`, block = this.ask(line);
+  /** @param {number} now @param {number | bigint} time @param {string} page @param {import('./drawings.js').Drawing | string} drawing */
+  add(now, time, page, drawing) {
+    const sent = this.told(now, Number(time)), answer = super.add(now, time, page, drawing);
+    answer.send.unshift(...sent);
+    return answer;
+  }
+
+  /** A judged host has the time of day itself.
+   * @param {number} now @param {number | bigint} _time @param {string} page @param {string} operation */
+  lineOf(now, _time, page, operation) {
+    return `add ${now} ${page} ${operation}`;
+  }
+
+  /** @param {string} line @param {number} now @param {Uint8Array} draft */
+  byBytes(line, now, draft) {
+    const answer = this.kept(this.live().add(now, draft));
+    if (answer.refused === 'full') return Object.assign(answer, { refused: null, became: /** @type {const} */ ('full') });
+    // the line of a judged host has no time, and so one word less
+    if (answer.refused !== null) throw new Refused(line, answer.refused.replace('word 6:', 'word 5:'));
+    return answer;
+  }
+
+  /** @param {string} line @returns {Answer} */
+  byLine(line) {
+    const block = this.ask(line);
     if (block.fault !== null && block.fault !== 'full') throw new Refused(line, block.fault);
     this.record.add(block.said('record'));
     const fate = block.fault ?? block.said('became')[0], became = /** @type {import('./wb.js').Became} */ (fate === 'left' ? 'full' : fate);
-    return Object.assign(new Answer(), { send: [...sent, ...block.sent()], due: this.due, became, warning: block.said('warn')[0] ?? null });
+    return Object.assign(new Answer(), { send: block.sent(), due: this.due, became, warning: block.said('warn')[0] ?? null });
   }
 
   /** The same, by one sync of the disk.
-   * @param {number} now @param {number | bigint} time @param {string} page @param {string[]} operations */
-  addAll(now, time, page, operations) {
+   * @param {number} now @param {number | bigint} time @param {string} page @param {(import('./drawings.js').Drawing | string)[]} drawings */
+  addAll(now, time, page, drawings) {
     this.record.isHeld = true;
     try {
-      return super.addAll(now, time, page, operations);
+      return super.addAll(now, time, page, drawings);
     } finally {
       this.record.isHeld = false;
       this.record.sync();

@@ -33,25 +33,40 @@ export class Host {
     ask(line: string): Block;
     /** @param {string} line */
     must(line: string): Block;
-    /** @param {Answer} answer */
-    heed(answer: Answer): Answer;
+    /** @param {Answer} answer @param {Uint8Array} [datagram] that came in @returns {Told} */
+    heed(answer: Answer, datagram?: Uint8Array | undefined): Told;
     /** A datagram came in. The answer refuses bytes that are not one, or that no host takes; this program is not to blame. From which place, only
      * a host with a record minds.
-     * @param {number} now @param {Uint8Array} datagram @param {bigint} [_place] @returns {Answer} */
-    came(now: number, datagram: Uint8Array, _place?: bigint | undefined): Answer;
+     * @param {number} now @param {Uint8Array} datagram @param {bigint} [_place] @returns {Told} */
+    came(now: number, datagram: Uint8Array, _place?: bigint | undefined): Told;
     /** Time is `now`: to be called when the clock comes to `due`, and before more is handed in then.
      * @param {number} now */
-    tick(now: number): Answer;
-    /** The user draws, as `line 0 0 4 0 *`, `text 0 1 "hello"` or `delete 7 1`. If two drawops cover one cell, the one with the greater time is
-     * seen: use the microseconds of the time of day.
-     * @param {number} now @param {number | bigint} time @param {string} page as `1/1` @param {string} operation @returns {Answer} */
-    add(now: number, time: number | bigint, page: string, operation: string): Answer;
+    tick(now: number): Told;
+    /** The user draws, as `{ kind: 'text', x: 0, y: 1, text: 'hello' }`, or in words, as `line 0 0 4 0 *`, `text 0 1 "hello"` or `delete 7 1`. If two
+     * drawops cover one cell, the one with the greater time is seen: use the microseconds of the time of day.
+     * @param {number} now @param {number | bigint} time @param {string} page as `1/1` @param {Drawing | string} drawing @returns {Told} */
+    add(now: number, time: number | bigint, page: string, drawing: Drawing | string): Told;
+    /** The line of a drawing.
+     * @param {number} now @param {number | bigint} time @param {string} page @param {string} operation */
+    lineOf(now: number, time: number | bigint, page: string, operation: string): string;
+    /** Draws by bytes. What is refused is what its line is refused for.
+     * @param {string} line @param {number} now @param {Uint8Array} draft */
+    byBytes(line: string, now: number, draft: Uint8Array): Told;
+    /** Draws by its line, which says what is wrong with it.
+     * @param {string} line @returns {Answer} */
+    byLine(line: string): Answer;
+    /** An answer with the drawing in it, which goes out behind what is due before.
+     * @param {Answer} answer @returns {Told} */
+    named(answer: Answer): Told;
     /** Draws one after another, until one has no room. Refused at the first that the host does not take; those before it are drawn.
-     * @param {number} now @param {number | bigint} time @param {string} page @param {string[]} operations @returns {Answer[]} */
-    addAll(now: number, time: number | bigint, page: string, operations: string[]): Answer[];
+     * @param {number} now @param {number | bigint} time @param {string} page @param {(Drawing | string)[]} drawings @returns {Told[]} */
+    addAll(now: number, time: number | bigint, page: string, drawings: (Drawing | string)[]): Told[];
     /** Gives the timers other constants, 1 to 16 each.
      * @param {number} c1 @param {number} c2 @param {number} d1 @param {number} d2 */
     tune(c1: number, c2: number, d1: number, d2: number): void;
+    /** The bytes of each item that a question finds. What is no question its line refuses.
+     * @param {string} line @param {number} question @param {string} page @param {number} [width] @param {number} [height] @returns {Uint8Array[]} */
+    items(line: string, question: number, page: string, width?: number | undefined, height?: number | undefined): Uint8Array[];
     /** The rows of the page's canvas, 1 to 200 wide and 1 to 100 high.
      * @param {string} page @param {number} width @param {number} height */
     show(page: string, width: number, height: number): string[];
@@ -77,18 +92,13 @@ export class Host {
     end(): void;
 }
 export type Became = import('./host.js').Became;
+export type Drawop = import('./drawings.js').Drawop;
+export type Drawing = import('./drawings.js').Drawing;
 /**
- * A drawop as a page shows it. Its operation is in words, as `line 0 0 4 0 *`.
+ * What a call came to, and the drawop that is held now and was not before: its name, its page and what it draws.
  */
-export type Drawop = {
-    source: number;
-    /**
-     * as `1/1`: its creator and its number
-     */
-    page: string;
-    number: number;
-    time: bigint;
-    operation: string;
+export type Told = Answer & {
+    drawop: Drawop | null;
 };
 /**
  * Numbers of a source that are missing, from the first to the last.
@@ -116,5 +126,7 @@ import { Answer } from "./host.js";
 import { Host as BareHost } from "./host.js";
 import { HostEnded } from "./host.js";
 import { Program } from "./host.js";
+import { drawingIn } from "./drawings.js";
+import { drawopOf } from "./drawings.js";
 import { Block } from "./host.js";
-export { Answer, BareHost, HostEnded, Program };
+export { Answer, BareHost, HostEnded, Program, drawingIn, drawopOf };

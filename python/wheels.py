@@ -31,9 +31,14 @@ def said(name: str) -> str:
     return found[1]
 
 
+def classifiers() -> List[str]:
+    found = re.search(r"^classifiers = \[(.*?)^\]$", (HERE / "pyproject.toml").read_text(), re.MULTILINE | re.DOTALL)
+    return re.findall(r'"(.*?)"', found[1]) if found else []
+
+
 def metadata() -> bytes:
     fields = [("Metadata-Version", "2.1"), ("Name", said("name")), ("Version", said("version")), ("Summary", said("description")),
-              ("Requires-Python", said("requires-python")), ("Description-Content-Type", "text/markdown")]
+              ("Requires-Python", said("requires-python")), *(("Classifier", each) for each in classifiers()), ("Description-Content-Type", "text/markdown")]
     return ("".join("%s: %s\n" % field for field in fields) + "\n" + (HERE / "README.md").read_text()).encode()
 
 
@@ -50,13 +55,14 @@ def name_of(is_built: bool) -> str:
     return "%s-%s-py3-none-%s.whl" % (said("name"), said("version"), PLATFORM if is_built else "any")
 
 
-def write_wheel(folder: Path, built: List[Path]) -> str:
-    """Writes the wheel into a folder, and gives its name."""
+def write_wheel(folder: Path, built: List[Path], is_editable: bool = False) -> str:
+    """Writes the wheel into a folder, and gives its name. An editable one has the place of this folder, and no module."""
     home = "%s-%s.dist-info" % (said("name"), said("version"))
     name = name_of(bool(built))
     tag = name[len("%s-%s-" % (said("name"), said("version"))):-len(".whl")]
     told = "Wheel-Version: 1.0\nGenerator: wheels.py\nRoot-Is-Purelib: %s\nTag: %s\n" % (str(not built).lower(), tag)
-    files = modules() + [("wb/" + path.name, path.read_bytes(), 0o755) for path in built]
+    files = [("wb.pth", str(HERE).encode() + b"\n", 0o644)] if is_editable else modules()
+    files += [("wb/" + path.name, path.read_bytes(), 0o755) for path in built]
     if built:
         files += [(home + "/licenses/THIRD-PARTY", THIRD_PARTY.read_bytes(), 0o644)]
     files += [(home + "/METADATA", metadata(), 0o644), (home + "/WHEEL", told.encode(), 0o644)]
@@ -74,6 +80,10 @@ def write_wheel(folder: Path, built: List[Path]) -> str:
 
 def build_wheel(wheel_directory: str, config_settings: Optional[Dict[str, Any]] = None, metadata_directory: Optional[str] = None) -> str:
     return write_wheel(Path(wheel_directory), [])
+
+
+def build_editable(wheel_directory: str, config_settings: Optional[Dict[str, Any]] = None, metadata_directory: Optional[str] = None) -> str:
+    return write_wheel(Path(wheel_directory), [], is_editable=True)
 
 
 def build_sdist(sdist_directory: str, config_settings: Optional[Dict[str, Any]] = None) -> str:

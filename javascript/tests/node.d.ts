@@ -31,7 +31,36 @@ declare module 'node:fs' {
 }
 declare module 'node:crypto' {
   export function randomInt(max: number): number;
+  export function randomBytes(many: number): { toString(form: 'hex'): string };
+  interface Hash {
+    update(bytes: Uint8Array): Hash;
+    digest(): { readBigUInt64BE(): bigint };
+  }
+  export function createHash(name: 'sha256'): Hash;
 }
+declare module 'node:net' {
+  export interface Socket {
+    writableLength: number;
+    on(name: string, listener: (...told: any[]) => void): this;
+    write(bytes: Uint8Array): void;
+    end(bytes: Uint8Array): void;
+    destroy(fault?: Error): void;
+  }
+  export function connect(options: { host: string, port: number }): Socket;
+}
+declare module 'node:tls' {
+  export interface ConnectionOptions { host?: string, port?: number, servername?: string, ca?: string | Uint8Array }
+  export function connect(options: ConnectionOptions): import('node:net').Socket;
+}
+interface Buffer extends Uint8Array {
+  subarray(from?: number, until?: number): Buffer;
+}
+declare const Buffer: {
+  from(given: string | ArrayLike<number>): Buffer;
+  concat(parts: readonly Uint8Array[]): Buffer;
+  alloc(size: number): Buffer;
+  compare(a: Uint8Array, b: Uint8Array): number;
+};
 declare module 'node:path' {
   export function dirname(path: string): string;
   export function resolve(path: string): string;
@@ -44,4 +73,6 @@ declare namespace NodeJS {
 }
 declare function setTimeout(call: () => void, milliseconds: number): NodeJS.Timeout;
 declare function clearTimeout(timer: NodeJS.Timeout | undefined): void;
+declare function setInterval(call: () => void, milliseconds: number): NodeJS.Timeout;
+declare function clearInterval(timer: NodeJS.Timeout): void;
 declare const process: { hrtime: { bigint(): bigint }, emitWarning(fault: Error): void };

@@ -2,7 +2,7 @@
 import { appendFileSync, mkdtempSync, readFileSync, rmSync, writeFileSync } from 'node:fs';
 import { tmpdir } from 'node:os';
 import { join } from 'node:path';
-import { Host, HostEnded, Refused } from '../wb.js';
+import { Host, HostEnded, Refused, drawingIn } from '../wb.js';
 import { Member, RecordedHost, load } from '../node.js';
 
 let passed = 0, failed = 0;
@@ -48,6 +48,8 @@ const drawn = await one.add(1000, 5, '1/1', 'line 0 0 4 0 *');
 judge('a drawing is sent', drawn.send.map((datagram) => datagram.length), [42]);
 judge('one that comes in is new', (await two.came(500, drawn.send[0])).became, 'new');
 judge('and then known', (await two.came(600, drawn.send[0])).became, 'again');
+judge('what is new is told with its name, its page and what it draws', [drawn.drawop, drawingIn(drawn.drawop.operation)],
+  [{ source: 1, page: '1/1', number: 1, time: 5n, operation: 'line 0 0 4 0 *' }, { kind: 'line', x0: 0, y0: 0, x1: 4, y1: 0, glyph: '*' }]);
 judge('it is shown', await two.show('1/1', 6, 1), ['***** ']);
 judge('and told', await two.view('1/1'), [{ source: 1, page: '1/1', number: 1, time: 5n, operation: 'line 0 0 4 0 *' }]);
 const { due } = two;
@@ -60,6 +62,8 @@ judge('questions', [await two.report('1/1'), await two.gaps('1/1'), await two.pa
 await two.add(2000, 6, '1/1', 'text 0 0 "ok 7"');
 judge('a row that looks like a closing line is a row', (await two.show('1/1', 4, 2))[0], 'ok 7');
 judge('a line has no line feed in it', await raised(() => two.add(3000, 7, '1/1', 'line 0 0 4 0 *\n')), 'Refused');
+judge('what is aimed at itself is refused', await refused(() => two.add(2001, 6, '1/1', { kind: 'delete', source: 2, number: 2 })), 'word 6: target is the drawop itself');
+judge('a question that is none is refused', [await refused(() => two.show('1/1', 0, 1)), await refused(() => two.view('x')), await refused(() => two.gaps('1/4294967296'))], ['number', 'words', 'number']);
 const many = await Promise.all([1, 2, 3].map((at) => one.add(2000 + at, 5 + at, '1/1', `line 0 ${at} 4 ${at} *`)));
 judge('calls that overlap are done in their order', many.map((answer) => answer.send.length), [1, 1, 1]);
 const full = await Host.open(3, { program, cells: 1, listen: 0 });
@@ -139,13 +143,14 @@ const here = { address: '127.0.0.1', port: 0 };
 const members = await Promise.all([1, 2, 3].map((number) => Member.open(number, { program, bind: here, listen: 0 })));
 let state = 7;
 for (const member of members) {
-  member.to = members.filter((other) => other !== member).map((other) => other.address());
+  member.transport.to = members.filter((other) => other !== member).map((other) => other.address());
   const take = member.take.bind(member);
   member.take = (datagram) => {
     state = (state * 1_103_515_245 + 12_345) % 2 ** 31;
     if (state / 2 ** 31 >= 0.33) take(datagram);
   };
 }
+judge('nobody takes a port that another has', await Member.open(9, { program, bind: members[0].address(), listen: 0 }).catch((fault) => fault.code), 'EADDRINUSE');
 const whole = Promise.all(members.map((member) => new Promise((done, fail) => {
   member.on('fault', fail);
   member.on('change', async () => {

@@ -1,6 +1,7 @@
 """`wb host` as a child process: a line goes in, and its block comes out, each within a limit of time."""
 from __future__ import annotations
 
+import errno
 import os
 import select
 import subprocess
@@ -10,6 +11,7 @@ from collections import deque
 from typing import Deque, List, Optional, Sequence
 
 from .blocks import Block, block_of, bytes_of, is_closing, rows_of
+from .program import NoProgram
 
 # seconds in which a child has to print something that it owes
 PATIENCE = 10.0
@@ -29,7 +31,12 @@ class Child:
 
     def __init__(self, words: Sequence[str], patience: float = PATIENCE) -> None:
         self.patience = patience
-        self.process = subprocess.Popen(list(words), stdin=subprocess.PIPE, stdout=subprocess.PIPE, bufsize=0, start_new_session=True)
+        try:
+            self.process = subprocess.Popen(list(words), stdin=subprocess.PIPE, stdout=subprocess.PIPE, bufsize=0, start_new_session=True)
+        except OSError as fault:
+            if fault.errno != errno.ENOEXEC:
+                raise
+            raise NoProgram("%s is for Linux on x86-64, and does not run here" % words[0]) from fault
         assert self.process.stdin and self.process.stdout
         self.input, self.output = self.process.stdin, self.process.stdout
         os.set_blocking(self.input.fileno(), False)
@@ -118,13 +125,28 @@ class Child:
 
 
 class ChildHost(Child):
-    """`wb host` with these words after it. Threads that ask it at once wait for one another."""
+    """`wb host` with these words after it. Threads that ask it at once wait for one another. If WB_LINES names a folder, the lines that it is
+    given are kept there, in a file for each host: handed to `wb host` again, they have the same blocks."""
 
     def __init__(self, program: str, *words: str, patience: float = PATIENCE) -> None:
         super().__init__([program, "host", *words], patience)
+        folder = os.environ.get("WB_LINES")
+        self.kept = open(os.path.join(folder, "%d.lines" % self.process.pid), "wb", buffering=0) if folder else None
+        if self.kept:
+            self.kept.write(b"# wb " + " ".join(["host", *words]).encode() + b"\n")
         self.lock = threading.RLock()
         self.has_board = False
         self.due: Optional[int] = None  # behind the last line whose block was read
+
+    def give(self, lines: Sequence[bytes]) -> None:
+        if self.kept:
+            self.kept.write(b"".join(line + b"\n" for line in lines))
+        super().give(lines)
+
+    def end(self) -> None:
+        super().end()
+        if self.kept:
+            self.kept.close()
 
     def printed(self, line: bytes) -> List[bytes]:
         """What a line that was given prints: its block, the closing line at the end. Lines are read in the order of giving."""

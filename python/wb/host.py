@@ -1,14 +1,16 @@
 """A member without a network and a clock. A program hands it datagrams and moments, and sends what it answers."""
 from __future__ import annotations
 
-import enum
 import random
 from types import TracebackType
-from typing import Dict, Iterable, List, NamedTuple, Optional, Sequence, Tuple, Type, Union
+from typing import Dict, Iterable, List, Optional, Tuple, Type, TypeVar, Union
 
+from .answers import Answer, Became, Gap, Refused
 from .blocks import Block
+from .calls import Lines
 from .child import ChildHost
-from .library import LibraryHost
+from .drawings import Drawing, Drawop, Page
+from .library import Bytes, LibraryHost
 from .program import find_library, find_program
 
 # cells of a board at most, and so its drawops
@@ -17,83 +19,13 @@ MOST_CELLS = 65_535
 # microseconds for which a member only listens whose number may have drawn before
 LISTENING = 6_000_000
 
-
-class Page(NamedTuple):
-    """A page: the member that created it, and its number."""
-
-    creator: int
-    number: int
-
-    def __str__(self) -> str:
-        return "%d/%d" % self
-
-    @classmethod
-    def of(cls, text: str) -> Page:
-        """The page of a text such as 7/1."""
-        creator, _, number = text.partition("/")
-        return cls(int(creator), int(number))
-
-
 AnyPage = Union[Page, Tuple[int, int], str]
-
-
-class Became(enum.Enum):
-    """What became of a drawop that was handed in."""
-
-    NEW = "1 0 0 0"
-    AGAIN = "0 1 0 0"
-    CLASH = "0 0 1 0"
-    FULL = "0 0 0 1"
-
-
-class Answer(NamedTuple):
-    """What a call came to: datagrams to be sent to all others, and what became of a drawop. If the call was refused, why: then
-    nothing has changed. `due` is the moment at which to call `tick` next, if there is one. A host with a record may warn people."""
-
-    send: List[bytes]
-    due: Optional[int]
-    became: Optional[Became] = None
-    refused: Optional[str] = None
-    warning: Optional[str] = None
-
-
-class Drawop(NamedTuple):
-    """A drawop as a page shows it. Its operation is in words, as `line 0 0 4 0 *`."""
-
-    source: int
-    page: Page
-    number: int
-    time: int
-    operation: str
-
-
-class Gap(NamedTuple):
-    """Numbers of a source that are missing, from the first to the last."""
-
-    source: int
-    first: int
-    last: int
-
-
-class Refused(Exception):
-    """A call that is the program's own was refused. It changed nothing. `fault` says why, as `listening`."""
-
-    def __init__(self, call: str, fault: str) -> None:
-        super().__init__("%s: %s" % (call[:80], fault))
-        self.fault = fault
+AnyDrawing = Union[Drawing, str]
+T = TypeVar("T")
 
 
 def page_of(page: AnyPage) -> Page:
     return Page.of(page) if isinstance(page, str) else Page(*page)
-
-
-def pages_in(block: Block) -> List[Page]:
-    return [Page(*map(int, line.split())) for line in block.lines[1:]]
-
-
-def drawop_in(line: str) -> Drawop:
-    _, source, page, number, time, operation = line.split(" ", 5)
-    return Drawop(int(source), Page.of(page), int(number), int(time), operation)
 
 
 def start() -> Union[LibraryHost, ChildHost]:
@@ -112,6 +44,7 @@ class Host:
                  by: Union[LibraryHost, ChildHost, None] = None) -> None:
         self.member = member
         self.by = by or start()
+        self.calls = Bytes(self.by) if isinstance(self.by, LibraryHost) else Lines(self.by)
         try:
             self.must("board %d %d 1 %d" % (member, cells, random.SystemRandom().getrandbits(64) if seed is None else seed))
             self.keep_itself(rate, listen)
@@ -144,25 +77,30 @@ class Host:
             raise Refused(line, block.fault)
         return block
 
+    # ---- what happens
+
     def came(self, now: int, datagram: bytes, place: int = 0) -> Answer:
         """A datagram came in. Bytes that are not one, or that no host takes, are refused; this program is not to blame. From which
         place, only a host with a record minds."""
-        return answer_of(self.by.ask("came %d %s" % (now, datagram.hex())))
+        return self.calls.came(now, datagram)
 
     def tick(self, now: int) -> Answer:
         """Time is `now`. To be called when the clock comes to `due`, and before more is handed in then."""
-        return answer_of(self.must("tick %d" % now))
+        return taken("tick %d" % now, self.calls.tick(now))
 
-    def add(self, now: int, time: int, page: AnyPage, operation: str) -> Answer:
-        """The user draws, as `line 0 0 4 0 *`, `text 0 1 "hello"` or `delete 7 1`. If two drawops cover one cell, the one with the
-        greater time is seen: use the microseconds of the time of day."""
-        return answer_of(self.must("add %d %d %s %s" % (now, time, page_of(page), operation)))
+    def add(self, now: int, time: int, page: AnyPage, drawing: AnyDrawing) -> Answer:
+        """The user draws, as `Line(0, 0, 4, 0, "*")`, or in words, as `line 0 0 4 0 *`, `text 0 1 "hello"` or `delete 7 1`. If two drawops cover
+        one cell, the one with the greater time is seen: use the microseconds of the time of day."""
+        operation = str(drawing)
+        if "\n" in operation:
+            raise ValueError("a line feed in a drawing")
+        return taken("add %d %d %s %s" % (now, time, page_of(page), operation), self.calls.add(now, time, self.member, page_of(page), operation))
 
-    def add_all(self, now: int, time: int, page: AnyPage, operations: Iterable[str]) -> List[Answer]:
+    def add_all(self, now: int, time: int, page: AnyPage, drawings: Iterable[AnyDrawing]) -> List[Answer]:
         """Draws one after another, until one has no room. Refused at the first that the host does not take; those before it are drawn."""
         answers: List[Answer] = []
-        for operation in operations:
-            answers.append(self.add(now, time, page, operation))
+        for drawing in drawings:
+            answers.append(self.add(now, time, page, drawing))
             if answers[-1].became is Became.FULL:
                 break
         return answers
@@ -171,30 +109,38 @@ class Host:
         """Gives the timers other constants, 1 to 16 each."""
         self.must("tuning %d %d %d %d" % (c1, c2, d1, d2))
 
+    # ---- questions, which change nothing
+
+    def found(self, line: str, found: Optional[T]) -> T:
+        """What a question found. If it is none, its line says why."""
+        if found is None:
+            self.must(line)
+            raise Refused(line, "no answer")
+        return found
+
     def show(self, page: AnyPage, width: int, height: int) -> List[str]:
         """The rows of the page's canvas, 1 to 200 wide and 1 to 100 high."""
-        return self.must("show %d %d %d %d" % (*page_of(page), width, height)).lines
+        return self.found("show %d %d %d %d" % (*page_of(page), width, height), self.calls.show(page_of(page), width, height))
 
     def view(self, page: AnyPage) -> List[Drawop]:
         """What the page shows, in the order of painting."""
-        return [drawop_in(line) for line in self.must("view %d %d" % page_of(page)).lines[1:]]
+        return self.found("view %d %d" % page_of(page), self.calls.view(page_of(page)))
 
     def gaps(self, page: AnyPage) -> List[Gap]:
         """What is missing of the page."""
-        return [Gap(*map(int, line.split())) for line in self.must("gaps %d %d" % page_of(page)).lines[1:]]
+        return self.found("gaps %d %d" % page_of(page), self.calls.gaps(page_of(page)))
 
     def report(self, page: AnyPage) -> Dict[int, int]:
         """Of each source, the greatest number that is held of the page."""
-        rows = [line.split() for line in self.must("report %d %d" % page_of(page)).lines[1:]]
-        return {int(source): int(high) for source, high in rows}
+        return self.found("report %d %d" % page_of(page), self.calls.report(page_of(page)))
 
     def pages(self) -> List[Page]:
         """The pages that have drawops."""
-        return pages_in(self.must("pages"))
+        return self.found("pages", self.calls.pages("pages"))
 
     def known(self) -> List[Page]:
         """The pages that have drawops, or were heard of."""
-        return pages_in(self.must("known"))
+        return self.found("known", self.calls.pages("known"))
 
     def version(self) -> int:
         """The number of the lines that the program reads and prints. docs/HOST.md says what it promises."""
@@ -202,15 +148,11 @@ class Host:
 
     def next_number(self, page: AnyPage) -> int:
         """The number that our next drawop on the page will have."""
-        return int(self.must("next %d %d" % page_of(page)).lines[0][5:])
+        return self.found("next %d %d" % page_of(page), self.calls.next_number(page_of(page)))
 
 
-def answer_of(block: Block) -> Answer:
-    last = block.lines[-1] if block.lines else ""
-    became = Became(last[6:]) if last.startswith("batch ") else None
-    return Answer([bytes.fromhex(digits) for digits in block.sent()], block.due, became, block.fault)
-
-
-def sends(answers: Sequence[Answer]) -> List[bytes]:
-    """The datagrams of answers, in their order."""
-    return [datagram for answer in answers for datagram in answer.send]
+def taken(call: str, answer: Answer) -> Answer:
+    """The answer of a call that is the program's own."""
+    if answer.refused is not None:
+        raise Refused(call, answer.refused)
+    return answer

@@ -18,7 +18,7 @@ class NoProgram(Exception):
 def beside() -> List[Path]:
     """The folders that may have what was built: this package, the checkout in which it lies, and the tree in which it was installed."""
     top = HERE.parent.parent
-    return [HERE, top / "out", top / "out" / "lib", top.parent.parent / "bin", top.parent.parent / "lib"]
+    return [HERE, top / "out", top / "out" / "lib", top.parent.parent / "bin", top.parent.parent / "lib", top.parent / "x86_64-linux-gnu"]
 
 
 def find_program() -> str:
@@ -26,7 +26,8 @@ def find_program() -> str:
     there = [str(folder / "wb") for folder in beside() if (folder / "wb").is_file() and os.access(folder / "wb", os.X_OK)]
     found = os.environ.get("WB_PROGRAM") or next(iter(there), None) or shutil.which("wb")
     if not found:
-        raise NoProgram("there is no program wb: put it on PATH, or name it by WB_PROGRAM; in a checkout, ./wb --where builds it")
+        raise NoProgram("there is no program wb: put it on PATH, or name it by WB_PROGRAM; in a checkout, "
+                        "./wb --now builds one that is not proved, in two minutes, and prints its path")
     return found
 
 

@@ -10,9 +10,9 @@ import time
 from pathlib import Path
 from typing import Any, Iterable, List, Sequence, Union
 
-from .blocks import Block
+from .answers import Answer, Refused
 from .child import ChildHost
-from .host import LISTENING, MOST_CELLS, AnyPage, Answer, Became, Host, Refused, page_of
+from .host import LISTENING, MOST_CELLS, AnyDrawing, AnyPage, Host, taken
 from .library import LibraryHost
 
 # how a record begins, the line of its board after that, and the last line of a member that ended as it should
@@ -133,6 +133,7 @@ class RecordedHost(Host):
     def keep_itself(self, rate: int, listen: int) -> None:
         last = max((int(line[5:]) for line in self.record.lines if line.startswith("tick ")), default=-1)
         self.begun = self.told_at = last + 1 + random.SystemRandom().randrange((MOST_MOMENT - last) // LEAD_PART)
+        self.calls.is_judged = True
         self.must("judge %d %d %d %d - -" % (self.begun, rate, listen, self.time_of_day() // 1000))
         for line, block in zip(self.record.lines, self.by.ask_all(["held " + line for line in self.record.lines])):
             if block.fault is not None:
@@ -145,54 +146,40 @@ class RecordedHost(Host):
         super().end()
         self.record.end()
 
-    def act(self, line: str) -> Block:
-        """The block of a line that acts, once its record is written."""
-        with self.by.lock:
-            block = self.by.ask(line)
-            self.record.add(block.said("record"))
-        return block
+    def kept(self, answer: Answer) -> Answer:
+        """What a call came to, once its record is written. What is dropped was refused."""
+        self.record.add(answer.records)
+        return answer if answer.dropped is None else answer._replace(refused="dropped " + answer.dropped)
 
     def told(self, now: int, time_of_day: int) -> List[bytes]:
         """Tells it the time of day, in microseconds since 1970, and gives what is to be sent."""
-        self.told_at = now
-        return judged(self.act("wall %d %d" % (now, time_of_day))).send
+        with self.by.lock:
+            self.told_at = now
+            return self.kept(self.calls.wall(now, time_of_day)).send
 
     def came(self, now: int, datagram: bytes, place: int = 0) -> Answer:
-        return judged(self.act("came %d %d %s" % (now, place, datagram.hex())))
+        with self.by.lock:
+            return self.kept(self.calls.came_from(now, place, datagram))
 
     def tick(self, now: int) -> Answer:
-        sent = self.told(now, self.time_of_day() // 1000) if now >= self.told_at + MINUTE else []
-        answer = judged(self.act("tick %d" % now))
-        if answer.refused is not None:
-            raise Refused("tick %d" % now, answer.refused)
+        with self.by.lock:
+            sent = self.told(now, self.time_of_day() // 1000) if now >= self.told_at + MINUTE else []
+            answer = self.kept(taken("tick %d" % now, self.calls.tick(now)))
         return answer._replace(send=sent + answer.send)
 
-    def add(self, now: int, time: int, page: AnyPage, operation: str) -> Answer:
-        sent, line = self.told(now, time), "add %d %s %s" % (now, page_of(page), operation)
-        answer = judged(self.act(line))
-        if answer.refused == "full":
-            return Answer(sent, answer.due, Became.FULL)
-        if answer.refused is not None:
-            raise Refused(line, answer.refused)
+    def add(self, now: int, time: int, page: AnyPage, drawing: AnyDrawing) -> Answer:
+        with self.by.lock:
+            sent = self.told(now, time)
+            answer = super().add(now, time, page, drawing)
+            self.record.add(answer.records)
         return answer._replace(send=sent + answer.send)
 
-    def add_all(self, now: int, time: int, page: AnyPage, operations: Iterable[str]) -> List[Answer]:
+    def add_all(self, now: int, time: int, page: AnyPage, drawings: Iterable[AnyDrawing]) -> List[Answer]:
         """The same, by one sync of the disk."""
         with self.by.lock:
             self.record.is_held = True
             try:
-                return super().add_all(now, time, page, operations)
+                return super().add_all(now, time, page, drawings)
             finally:
                 self.record.is_held = False
                 self.record.sync()
-
-
-# what a judged host says became of a drawop
-FATES = {"new": Became.NEW, "again": Became.AGAIN, "clash": Became.CLASH, "left": Became.FULL}
-
-
-def judged(block: Block) -> Answer:
-    """The answer of a judged host."""
-    became, why, warned = (block.said(word) for word in ("became", "dropped", "warn"))
-    fault = block.fault if block.fault is not None else "dropped " + why[0] if why else None
-    return Answer([bytes.fromhex(digits) for digits in block.sent()], block.due, FATES[became[0]] if became else None, fault, warned[0] if warned else None)

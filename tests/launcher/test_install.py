@@ -7,6 +7,7 @@ import subprocess
 
 import pytest
 
+from ..documents.shell import shell_lines
 from .checkout import TOP, Checkout, End
 
 INSTALLED = """\
@@ -62,6 +63,17 @@ def test_install(with_live: Checkout) -> None:
     (moved / "share/wb/old").touch()
     assert with_live.wb("--install", str(moved)).status == 0
     assert sorted(path.name for path in (moved / "share/wb").iterdir()) == ["live", "python", "wb", "wb-live", "wbhost.py"]
+
+
+def test_uninstall(with_live: Checkout) -> None:
+    """The lines of docs/LIVE.md leave no file of it, and what others have put there."""
+    folder = with_live.room / "usr"
+    assert with_live.wb("--install", str(folder)).status == 0
+    (folder / "bin/other").touch()
+    lines = [line for line in shell_lines("docs/LIVE.md") if " rm " in line]
+    script = "\n".join(lines).replace("/usr/local", str(folder)).replace("sudo ", "")
+    assert len(lines) == 2 and subprocess.run(["bash", "-ec", script], check=False).returncode == 0
+    assert [str(path.relative_to(folder)) for path in folder.rglob("*") if not path.is_dir()] == ["bin/other"]
 
 
 def test_folder_that_can_not_be_written_is_said_first(checkout: Checkout) -> None:

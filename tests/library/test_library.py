@@ -184,14 +184,6 @@ def test_pkg_config(library: Path) -> None:
     assert [Path(word[2:]).resolve() if word[:2] in ("-I", "-L") else word for word in told] == [library / "include", library / "lib", "-lwb"]
 
 
-def test_board_in_rust(library: Path, tmp_path: Path) -> None:
-    compiler = shutil.which("rustc")
-    if not compiler:
-        pytest.skip("there is no compiler of Rust here (apt-get install rustc)")
-    run([compiler, "--edition", "2021", "-D", "warnings", "-L", f"native={library}/lib", TOP / "examples/rust/board.rs", "-o", tmp_path / "board"])
-    assert run([tmp_path / "board"]) == "*****        \ndrawn in Rust\n"
-
-
 def test_only_the_calls_are_offered(library: Path, compiler: str) -> None:
     del compiler  # with it comes nm
     told = run(["nm", "-D", "--defined-only", library / "lib/libwb.so.0"])

@@ -13,7 +13,7 @@ from ..launcher.checkout import TOP, Checkout
 HERE = Path(__file__).resolve().parent
 
 # what is packed as it stands
-PACKED = ("CHANGELOG.md", "wb-live", "wbhost.py", "live", "python", "javascript", "include", "web/member")
+PACKED = ("README.md", "CHANGELOG.md", "docs", "examples", "wb-live", "wbhost.py", "live", "python", "javascript", "include", "web/member")
 STAND_INS = {"build.sh": "web/build", "library.sh": "tools/library", "static.sh": "tools/static"}
 
 
@@ -32,7 +32,7 @@ def make(room: Path) -> Checkout:
     for name in PACKED:
         place = checkout.top / name
         if (TOP / name).is_dir():
-            shutil.copytree(TOP / name, place, ignore=shutil.ignore_patterns("__pycache__"))
+            shutil.copytree(TOP / name, place, ignore=shutil.ignore_patterns("__pycache__", "target", "proofs", "pictures", "laboratory"))
         else:
             shutil.copyfile(TOP / name, place)
     (checkout.top / "wb-live").chmod(0o755)

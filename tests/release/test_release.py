@@ -6,6 +6,7 @@ import hashlib
 import os
 import shutil
 import subprocess
+import sys
 import tarfile
 from pathlib import Path
 
@@ -13,13 +14,13 @@ import pytest
 
 from ..host.program import program
 from ..launcher.checkout import TOP, Checkout, End
-from .conftest import find_dpkg
 
 NAME = "wb-0.1.0-linux-x86_64"
-DEBIAN = "wb_0.1.0_amd64.deb"
+DEBIAN = ["wb_0.1.0_amd64.deb", "python3-wb_0.1.0_all.deb"]
 
-# each once, and the modules of wb-live and the page beside them
+# each once, and the modules of wb-live, the page, the documents and the examples beside them
 PACKED = """\
+README.md
 bin/wb
 bin/wb-live
 include/wb.h
@@ -35,7 +36,10 @@ share/bash-completion/completions/wb-live
 share/doc/wb/BUILT
 share/doc/wb/CHANGELOG.md
 share/doc/wb/LICENCE
+share/doc/wb/README.md
 share/doc/wb/THIRD-PARTY
+share/doc/wb/javascript/README.md
+share/doc/wb/python/README.md
 share/fish/vendor_completions.d/wb-live.fish
 share/fish/vendor_completions.d/wb.fish
 share/man/man1/wb-live.1
@@ -74,7 +78,7 @@ def test_two_checkouts_have_one_sum(checkouts: list[Checkout]) -> None:
             path.chmod(path.stat().st_mode & ~0o077)
     first, second = sums(release(one)), sums(release(two))
     assert first == second
-    assert [line.split("  ")[1] for line in first] == [f"{NAME}.tar.gz", DEBIAN]
+    assert [line.split("  ")[1] for line in first] == [f"{NAME}.tar.gz", *DEBIAN]
 
 
 def unpacked(checkout: Checkout, **more: str) -> Path:
@@ -86,8 +90,10 @@ def unpacked(checkout: Checkout, **more: str) -> Path:
 def test_what_is_packed(checkout: Checkout) -> None:
     folder = unpacked(checkout)
     found = sorted(str(path.relative_to(folder)) for path in folder.rglob("*") if not path.is_dir() or path.is_symlink())
-    others = ("share/wb/live/", "share/wb/python/", "share/wb/page/")
-    assert [it for it in found if not it.startswith(others) or it.endswith("/index.html") and "page/" in it and "live" not in it] == PACKED.splitlines()
+    others = ("share/wb/live/", "share/wb/python/", "share/wb/page/", "share/doc/wb/docs/", "share/doc/wb/examples/")
+    assert {"share/doc/wb/docs/CLASS.md", "share/doc/wb/docs/LIVE.md", "share/doc/wb/docs/IN-YOUR-PROGRAM.md", "share/doc/wb/examples/member.py"} <= set(found)
+    assert not any("target/" in it or "node_modules/" in it for it in found)
+    assert [it for it in found if not it.startswith(others) or it == "share/wb/page/index.html"] == PACKED.splitlines()
     built = (folder / "share/doc/wb/BUILT").read_text().splitlines()
     assert [line.split()[0] for line in built] == ["wb", "sources", "proved", *["crate"] * 4]
     assert built[3:] == [f"crate {it} proved" for it in ("low", "middle", "wb", "wb_c")]
@@ -137,21 +143,77 @@ def test_the_archive_runs_without_a_toolchain_or_a_checkout(checkout: Checkout, 
     assert b"wb-live" in alone([place / "bin/wb-live", "--help"], hidden, home)
 
 
-def test_the_debian_package_is_installed_and_removed(checkout: Checkout, tmp_path: Path) -> None:
-    find_dpkg()
-    made = release(checkout, STATIC=program()) / DEBIAN
+def test_the_debian_packages_are_installed_and_removed(checkout: Checkout, tmp_path: Path) -> None:
+    made = release(checkout, STATIC=program())
     root = tmp_path / "root"
     (root / "var/lib/dpkg/updates").mkdir(parents=True)
     for name in ("status", "available"):
         (root / "var/lib/dpkg" / name).touch()
     (root / "var/lib/dpkg/info").mkdir()
     words = ["dpkg", f"--root={root}", "--force-not-root", "--force-depends", "--log=/dev/null"]
-    ran = subprocess.run([*words, "--install", made], capture_output=True, text=True, check=False)
+    ran = subprocess.run([*words, "--install", *(made / name for name in DEBIAN)], capture_output=True, text=True, check=False)
     assert ran.returncode == 0, ran.stderr
-    assert (root / "usr/share/man/man1/wb.1").exists() and (root / "usr/lib/x86_64-linux-gnu/libwb.so").is_symlink()
+    assert (root / "usr/share/man/man1/wb.1.gz").exists() and (root / "usr/lib/x86_64-linux-gnu/libwb.so").is_symlink()
+    assert (root / "usr/share/zsh/vendor-completions/_wb").exists() and (root / "usr/share/doc/wb/examples/member.py").exists()
     told = subprocess.run([root / "usr/bin/wb", "host"], input=b"board 1 100 1 42\n", stdout=subprocess.PIPE, check=True).stdout
     assert told == b"ok never\n"
     assert subprocess.run([root / "usr/share/wb/wb", "--version"], stdout=subprocess.PIPE, check=True).stdout.startswith(b"wb 0.1.0\n")
-    ran = subprocess.run([*words, "--purge", "wb"], capture_output=True, text=True, check=False)
+    (root / "usr/lib/x86_64-linux-gnu/libwb.so").unlink()  # it is a text here, so the program is the host
+    assert hosted([sys.executable], {"PYTHONPATH": str(root / "usr/lib/python3/dist-packages")}) == f"{root}/usr/bin/wb [Page(creator=1, number=1)]\n"
+    (root / "usr/lib/x86_64-linux-gnu/libwb.so").symlink_to("libwb.so.0")
+    ran = subprocess.run([*words, "--purge", "python3-wb", "wb"], capture_output=True, text=True, check=False)
     assert ran.returncode == 0, ran.stderr
     assert [path for path in (root / "usr").rglob("*") if not path.is_dir()] == [] if (root / "usr").exists() else True
+
+
+HOSTED = """import wb
+with wb.Host(1, listen=0) as host:
+    host.add(1, 5, "1/1", wb.Line(0, 0, 4, 0, "*"))
+    print(wb.find_program(), host.pages())
+"""
+
+
+def hosted(python: list[str], more: dict[str, str]) -> str:
+    """What a program in Python prints that has a host."""
+    ran = subprocess.run([*python, "-B", "-c", HOSTED], capture_output=True, text=True, check=False, env={"PATH": "/nowhere", **more})
+    assert ran.returncode == 0, ran.stderr
+    return ran.stdout
+
+
+def pythons() -> list[str]:
+    """The interpreters that WB_PYTHONS names, or else each Python from 3.8 on that is on PATH, the oldest first."""
+    named = os.environ.get("WB_PYTHONS")
+    words = named.split(":") if named else [path for minor in range(8, 20) if (path := shutil.which(f"python3.{minor}"))]
+    return [word for word in words if subprocess.run([word, "-c", "import venv, ensurepip"], capture_output=True, check=False).returncode == 0]
+
+
+@pytest.mark.skipif(not may_unshare(), reason="no namespace can be made here (apt-get install util-linux, or a kernel that allows it)")
+def test_the_wheel_is_used_by_the_oldest_and_the_newest_python(checkout: Checkout, tmp_path_factory: pytest.TempPathFactory) -> None:
+    """Each installs it from the archive, in a namespace that has no network, no toolchain and no checkout."""
+    found = pythons()
+    if not found:
+        pytest.skip("there is no Python with venv here (apt-get install python3-venv; WB_PYTHONS names others)")
+    home = tmp_path_factory.mktemp("home")
+    place = home / "wb"
+    shutil.move(str(unpacked(checkout, STATIC=program())), place)
+    wheel = next((place / "packages").glob("*.whl"))
+    kit = shutil.which("rt")
+    hidden = [TOP, checkout.room, *([Path(kit).resolve().parents[1]] if kit else [])]
+    for at, python in enumerate(dict.fromkeys([found[0], found[-1]])):
+        own = home / str(at)
+        alone([python, "-m", "venv", own], hidden, home)
+        alone([own / "bin/python", "-m", "pip", "install", "--quiet", "--disable-pip-version-check", "--no-index", wheel], hidden, home)
+        site = alone([own / "bin/python", "-c", "import wb; print(wb.__path__[0])"], hidden, home).decode().strip()
+        Path(site, "libwb.so").unlink()  # it is a text here
+        told = alone([own / "bin/python", "-c", HOSTED], hidden, home).decode()
+        assert told == f"{site}/wb [Page(creator=1, number=1)]\n"
+
+
+def test_debian_finds_no_error(checkout: Checkout) -> None:
+    if not shutil.which("lintian"):
+        pytest.skip("there is no lintian here (apt-get install lintian)")
+    made = release(checkout, STATIC=program())
+    told = subprocess.run(["lintian", "--fail-on", "error", "--allow-root", *(made / name for name in DEBIAN)], capture_output=True, text=True, check=False)
+    # the library of this checkout is a text, and the program is that of tests
+    known = ("libwb.", "[shlibs]", "[usr/bin/wb]")
+    assert [line for line in told.stdout.splitlines() if line.startswith("E:") and not any(each in line for each in known)] == []

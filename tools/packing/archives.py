@@ -2,13 +2,14 @@
 from __future__ import annotations
 
 import gzip
+import hashlib
 import os
 import shutil
 import subprocess
 import tarfile
 from io import BytesIO
 from pathlib import Path
-from typing import List
+from typing import Dict, List
 
 
 def files_below(folder: Path) -> List[Path]:
@@ -53,10 +54,16 @@ def set_modes(folder: Path) -> None:
             path.chmod(0o755 if path.is_dir() else mode_of(path))
 
 
-def write_debian(tree: Path, control: str, made: Path, moment: int) -> None:
-    """Debian's package of a tree that stands as it will below /."""
+def write_debian(tree: Path, control: str, made: Path, moment: int, more: Dict[str, str]) -> None:
+    """Debian's package of a tree that stands as it will below /. `more` are other files of DEBIAN."""
     (tree / "DEBIAN").mkdir()
-    (tree / "DEBIAN/control").write_text(control)
+    for name, text in more.items():
+        (tree / "DEBIAN" / name).write_text(text)
+    size = sum(path.stat().st_size for path in files_below(tree) if not path.is_symlink()) // 1024
+    (tree / "DEBIAN/control").write_text(control.replace("Description:", "Installed-Size: %d\nDescription:" % size))
+    sums = ["%s  %s\n" % (hashlib.md5(path.read_bytes()).hexdigest(), path.relative_to(tree)) for path in files_below(tree)
+            if not path.is_symlink() and path.parts[len(tree.parts)] != "DEBIAN"]
+    (tree / "DEBIAN/md5sums").write_text("".join(sums))
     set_modes(tree)
     made.unlink(missing_ok=True)
     environment = {**os.environ, "SOURCE_DATE_EPOCH": str(moment), "LC_ALL": "C"}

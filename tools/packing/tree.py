@@ -1,6 +1,8 @@
 """The tree of a release: where each file stands below /usr, and in the archive."""
 from __future__ import annotations
 
+import email.utils
+import gzip
 import importlib
 import os
 import re
@@ -11,6 +13,12 @@ from typing import Any, List, NamedTuple, Optional
 
 TOP = Path(__file__).resolve().parents[2]
 PARTS = TOP / "tools/installed"
+
+# who hands out Debian's packages: no address stands here until the owner names one
+MAINTAINER = "the owner of the repository <wb@localhost>"
+
+# what a build leaves beside sources
+LEFT = {"__pycache__", "target", "node_modules"}
 
 
 class Built(NamedTuple):
@@ -43,7 +51,7 @@ def put_link(place: Path, to: str) -> None:
 
 def put_folder(source: Path, place: Path) -> None:
     for path in sorted(source.rglob("*")):
-        if path.is_file() and "__pycache__" not in path.parts:
+        if path.is_file() and not LEFT & set(path.relative_to(source).parts):
             put(path, place / path.relative_to(source), 0o755 if os.access(path, os.X_OK) else 0o644)
 
 
@@ -93,13 +101,78 @@ def lay_parts(built: Built, tree: Path, day: str) -> None:
     (tree / "share/doc/wb/BUILT").write_text(built.told)
 
 
+def lay_documents(tree: Path) -> None:
+    """The pages that people read, as in the repository, and the examples."""
+    place = tree / "share/doc/wb"
+    for name in ("README.md", "python/README.md", "javascript/README.md"):
+        put(TOP / name, place / name)
+    for path in sorted((TOP / "docs").glob("*.md")):
+        put(path, place / "docs" / path.name)
+    put_folder(TOP / "examples", place / "examples")
+
+
 def lay(built: Built, tree: Path, day: str, lib: str = "lib") -> None:
     """All that is installed below one folder."""
     lay_program(built, tree)
     if built.library:
         lay_library(built.library, tree, lib)
     lay_parts(built, tree, day)
+    lay_documents(tree)
     put_folder(built.page, tree / "share/wb/page")
+
+
+# ---- for Debian
+
+def suit_debian(tree: Path, moment: int) -> None:
+    """What stands elsewhere in Debian: completions of zsh, the licences, packed pages of the manual, and what its checks should pass."""
+    share = tree / "share"
+    (share / "zsh/site-functions").rename(share / "zsh/vendor-completions")
+    for page in sorted((share / "man").rglob("*.1")):
+        pack(page)
+    for name in ("LICENCE", "THIRD-PARTY"):
+        (share / "doc/wb" / name).unlink()
+    tell_debian(tree, "wb", (PARTS / "THIRD-PARTY").read_text() + LESSER, moment)
+
+
+# what Debian has of the licences
+LESSER = "\nOn Debian the text of the GNU Lesser General Public License is in /usr/share/common-licenses/LGPL-2.1.\n"
+
+CHANGED = """\
+%s (%s) unstable; urgency=medium
+
+  * What has changed is in /usr/share/doc/wb/CHANGELOG.md.
+
+ -- %s  %s
+"""
+
+
+def tell_debian(tree: Path, name: str, licences: str, moment: int) -> None:
+    """The licences and what has changed as Debian names them, and what its checks should pass over."""
+    place = tree / "share/doc" / name
+    place.mkdir(parents=True, exist_ok=True)
+    (place / "copyright").write_text((PARTS / "LICENCE").read_text() + "\n" + licences)
+    (place / "changelog").write_text(CHANGED % (name, version(), MAINTAINER, email.utils.formatdate(moment)))
+    pack(place / "changelog")
+    put(PARTS / "lintian" / name, tree / "share/lintian/overrides" / name)
+
+
+def pack(path: Path) -> None:
+    """Packs a file, the same from everywhere: no moment stands in it."""
+    with open(path.with_name(path.name + ".gz"), "wb") as made, gzip.GzipFile("", "wb", 9, made, mtime=0) as packed:
+        packed.write(path.read_bytes())
+    path.unlink()
+
+
+def lay_python(tree: Path, moment: int) -> None:
+    """The package for Python, where Debian's Python finds it."""
+    wheels = beside("python", "wheels")
+    place = tree / "lib/python3/dist-packages"
+    put_folder(TOP / "python/wb", place / "wb")
+    home = place / ("wb-%s.dist-info" % version())
+    home.mkdir(parents=True)
+    (home / "METADATA").write_bytes(wheels.metadata())
+    put(TOP / "python/README.md", tree / "share/doc/python3-wb/README.md")
+    tell_debian(tree, "python3-wb", "", moment)
 
 
 def write_packages(built: Built, folder: Path) -> List[str]:
