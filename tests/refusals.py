@@ -31,10 +31,15 @@ def lines_of_crates(top: Path) -> dict[str, str]:
     return {line.split(":")[0].split()[0]: line for line in lines}
 
 
+def bare(text: bytes, suffix: str) -> bytes:
+    """What the prover reads of a text, by the ending of its file."""
+    comment = COMMENTS.get(suffix)
+    return comment.sub(b"", text) if comment else text
+
+
 def without_comments(path: Path) -> bytes:
     """What the prover reads of a file."""
-    comment = COMMENTS.get(path.suffix)
-    return comment.sub(b"", path.read_bytes()) if comment else path.read_bytes()
+    return bare(path.read_bytes(), path.suffix)
 
 
 @lru_cache(maxsize=None)
@@ -63,8 +68,8 @@ def name_of(edit: Path) -> str:
 
 
 def digest_of(edit: Path) -> str:
-    """What an edit is tried over."""
-    told = [edit.read_text(), digest_of_crate(top_of(edit), edit.parents[1].name)]
+    """What an edit is tried over. Which clauses it is there for counts elsewhere (tests/clauses.py)."""
+    told = [re.sub(r"^# clause: .*\n", "", edit.read_text(), flags=re.MULTILINE), digest_of_crate(top_of(edit), edit.parents[1].name)]
     return hashlib.sha256("\n".join(told).encode()).hexdigest()[:32]
 
 

@@ -14,7 +14,7 @@ import re
 import sys
 from dataclasses import dataclass, field
 from functools import cache
-from typing import Tuple
+from typing import NamedTuple, Tuple
 
 from .sources import CRATES, SPAN, TOP, crates_below, is_tests
 
@@ -169,25 +169,44 @@ def public_items(crate: str) -> set[str]:
     return names
 
 
-def clauses_of(text: str, items: set[str]) -> list[tuple[str, str, bool]]:
-    """The clauses of a source, each with the call or type that has it, and whether a caller sees it: it is of one of these items, of a public
-    call of such a type, or of what such a type has of a trait."""
-    found, owner, is_seen = [], "", False
+class Stated(NamedTuple):
+    """A clause of a source: the type that its call belongs to, if any, the call or type that has it, what stands before its brace as
+    `ensures end`, its text, and whether a caller sees it."""
+
+    type: str
+    owner: str
+    head: str
+    text: str
+    is_seen: bool
+
+
+def type_of(rest: str) -> str:
+    """The type of an `impl`, by what follows that word."""
+    bare = re.sub(r"^\s*<[^>]*>", "", rest).split(" for ")[-1]
+    word = re.search(r"[A-Za-z]\w*", bare)
+    return word[0] if word else ""
+
+
+def clauses_of(text: str, items: set[str]) -> list[Stated]:
+    """The clauses of a source. A caller sees those of these items, of the public calls of such a type, and of what such a type has of a trait."""
+    found, type_, owner, is_seen = [], "", "", False
     of_type = of_trait = False
     for part in PART.finditer(text):
         word = re.match(r"\W*(\w+)", part["rest"] or "")
         if part["clause"]:
-            found.append((owner, braced(text, part.end() - 1), is_seen))
+            head = part["clause"].rstrip("{").strip()
+            found.append(Stated(type_, owner, head, braced(text, part.end() - 1), is_seen))
         elif part["kind"] == "impl":
             of_trait = " for " in part["rest"]
-            types = re.findall(r"\w+", part["rest"].split(" for ")[-1])
-            of_type = bool(items & set(types))
-            owner, is_seen = types[0] if types else "", of_type and of_trait
+            of_type = bool(items & set(re.findall(r"\w+", part["rest"].split(" for ")[-1])))
+            type_ = owner = type_of(part["rest"])
+            is_seen = of_type and of_trait
         elif part["kind"] == "fn" and part["indent"]:
             owner, is_seen = word[1] if word else "", of_type and (of_trait or part["pub"] == "pub")
         elif word:
             owner, is_seen = word[1], part["pub"] == "pub" and word[1] in items
             of_type, of_trait = is_seen, part["kind"] == "trait"
+            type_ = owner if of_trait else ""
     return found
 
 
@@ -199,9 +218,9 @@ def roots_of(crate: str, is_public: bool = True) -> dict[str, set[Name]]:
     for path in sorted((CRATES / crate / "src").rglob("*.rt")):
         text, module = path.read_text(), Module()
         read_imports(text, module)
-        for owner, clause, is_seen in clauses_of(text, items):
-            if is_seen or not is_public:
-                found.setdefault(owner, set()).update(named_by(words_of(clause), None, module))
+        for it in clauses_of(text, items):
+            if it.is_seen or not is_public:
+                found.setdefault(it.owner, set()).update(named_by(words_of(it.text), None, module))
     return found
 
 

@@ -76,11 +76,6 @@ def all_clauses() -> set[str]:
     return set(re.findall(r"\bensures\s+(\w+)", all_text()))
 
 
-@cache
-def all_functions() -> set[str]:
-    return set(re.findall(r"\b(?:fn|mod)\s+(\w+)", all_text()))
-
-
 def rows_of(document: Path) -> list[str]:
     return [it for it in document.read_text().splitlines() if it.startswith("| ")]
 

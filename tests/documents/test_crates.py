@@ -56,24 +56,18 @@ def words_of(crate: str) -> set[str]:
 
 
 def wrong_modules() -> list[str]:
-    """Modules that ARCHITECTURE.md names and that there are not: in the table, definitions of the crate; in the part on a crate, what
-    stands neither in it nor in a crate below."""
-    text, below, wrong = (TOP / "docs/ARCHITECTURE.md").read_text(), crates_below(), []
+    """Names in the row of ARCHITECTURE.md on a crate that stand neither in it nor in a crate below."""
+    below, wrong = crates_below(), []
     for row in rows_of(TOP / "docs/ARCHITECTURE.md"):
-        crate, *_, last = [it.strip() for it in row.strip("|").split("|")]
-        if crate in texts():
-            wrong += [f"no {crate}/specs/{it}.antt" for it in SPAN.findall(last) if not (CRATES / crate / "specs" / f"{it}.antt").exists()]
-    for part in re.split(r"^### ", text, flags=re.MULTILINE)[1:]:
-        crate, _, said = part.partition("\n")
-        said = re.split(r"^## ", said, flags=re.MULTILINE)[0]
-        reached, ahead = set(), [crate]
+        crate, said, *_ = [it.strip() for it in row.strip("|").split("|")]
+        reached, ahead = set(), [crate] if crate in texts() else []
         while ahead:
             name = ahead.pop()
             if name in texts() and name not in reached:
                 reached.add(name)
                 ahead += below[name]
         known = set(reached) | {word for name in reached for word in words_of(name) | files_of(name)}
-        wrong += [f"{crate} knows no {it}" for it in SPAN.findall(said) if re.fullmatch(r"[A-Za-z_]\w*", it) and it not in known]
+        wrong += [f"{crate} knows no {it}" for it in SPAN.findall(said) if reached and re.fullmatch(r"[A-Za-z_]\w*", it) and it not in known]
     return wrong
 
 
@@ -190,3 +184,14 @@ def test_limits() -> None:
 
 def test_laws_of_the_numbers() -> None:
     nothing_is_wrong(unpinned_numbers())
+
+
+def test_what_stands_above_the_policy() -> None:
+    """ARCHITECTURE says of each crate above wb_policy how many minutes its proof may take."""
+    said = " ".join((TOP / "docs/ARCHITECTURE.md").read_text().split()).partition("By minutes of processor at most:")[2].partition(". ")[0]
+    budgets = dict(re.findall(r"^(wb\w*) ([\d.]+)$", (TOP / "tests/gate-budget").read_text(), re.MULTILINE))
+    above: list[str] = []
+    for crate, below in crates_below().items():
+        if {"wb_policy", *above} & set(below):
+            above.append(crate)
+    assert dict(re.findall(r"(wb\w*) ([\d.]+\d|\d+)", said)) == {crate: budgets[crate] for crate in above}

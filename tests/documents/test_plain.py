@@ -14,7 +14,7 @@ from pathlib import Path
 
 import pytest
 
-from .sources import DOCUMENTS, PAGES, TOP, nothing_is_wrong, short
+from .sources import DOCUMENTS, TOP, nothing_is_wrong, short
 
 # each pattern, a space for any white space, with what to write in its place
 FORBIDDEN = {
@@ -146,9 +146,7 @@ COMMENTS = sorted({path for part in COMMENTED for path in [TOP / part, *(TOP / p
 @pytest.mark.parametrize("page", PLAIN)
 def test_page(page: str) -> None:
     text = (TOP / page).read_text()
-    # a promise stands in one line of its page
-    long = long_lines(text) if TOP / page not in PAGES else []
-    nothing_is_wrong(bad_english(without_code(text)) + long)
+    nothing_is_wrong(bad_english(without_code(text)) + long_lines(text))
 
 
 def test_comments() -> None:

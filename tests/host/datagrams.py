@@ -106,5 +106,5 @@ class Words:
 
 
 def drawn(now: int, delay: int, word: int, lead: int, span: int, level: int = 0) -> int:
-    """A moment drawn at random, as docs/EMBEDDING.md has it: with C1 and C2 of a request, with D1 and D2 of a repair."""
+    """A moment drawn at random, as docs/PROTOCOL.md has it: with C1 and C2 of a request, with D1 and D2 of a repair."""
     return now + (lead * delay << level) + word % ((span * delay << level) + 1)

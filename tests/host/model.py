@@ -1,4 +1,4 @@
-"""A host in plain Python, from docs/SCRIPTS.md, docs/EMBEDDING.md and docs/HOST.md: what each line prints, but for canvases.
+"""A host in plain Python, from docs/SCRIPTS.md, docs/PROTOCOL.md and docs/HOST.md: what each line prints, but for canvases.
 
 It keeps lists and looks through them each time, so that it is right before it is fast.
 """

@@ -1,4 +1,4 @@
-"""A self-managing host, in plain Python, from docs/KEEPING.md: what each of its lines prints. It stands on the host of
+"""A self-managing host, in plain Python, from docs/PROTOCOL.md and docs/KEEPING.md: what each of its lines prints. It stands on the host of
 `model`, whose driver judges."""
 
 from __future__ import annotations

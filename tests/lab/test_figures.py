@@ -74,8 +74,8 @@ def test_the_page_says_what_the_table_has() -> None:
     page = "one\n<!-- figure f -->\nold\n<!-- end f -->\ntwo\n"
     assert put(page, "f", "new") == page.replace("old", "new") and put(page, "g", "new") == page, put(page, "f", "new")
     long = "| a |\n|---|\n" + "| 1 |\n" * 9
-    assert apart("f", "said\n\n| a |\n|---|") == ("said\n\n| a |\n|---|", ""), "a short table stays"
-    assert apart("f", f"said\n\n{long}\nmore") == ("said\n\n[Its table](laboratory/f.md).\n\nmore", f"# f\n\n{long}")
+    assert apart("f", "said\n\n| a |\n|---|") == "said\n\n| a |\n|---|", "a short table stays"
+    assert apart("f", f"said\n\n{long}\nmore") == "said\n\n[Its table](laboratory/f.csv).\n\nmore"
 
 
 def test_constants_are_searched() -> None:

@@ -5,7 +5,7 @@ from __future__ import annotations
 import json
 from pathlib import Path
 
-from . import painting
+from . import painting, sealed_vectors, timer_vectors
 from .codec import DELETE, FRAME, LINE, RESTORE, Aim, AskPages, Datagram, Drawop, Echo, Mark, Operation, Page, PageState, Request, SessionMessage, Shape, Text, write
 from .random_values import HEIGHT, WIDTH
 from .words import page_words, words_of
@@ -128,7 +128,8 @@ def page_vector(shows: str, came: list[Drawop]) -> dict[str, object]:
 def write_all(folder: Path) -> None:
     what = f"Drawops in the order in which they came, and what page 7/1 then shows in {WIDTH} columns and {HEIGHT} rows (spaces at the ends are left out), reports and lacks (docs/PROTOCOL.md)"
     pages = {"what": what, "pages": [page_vector(shows, came) for shows, came in PAGES]}
-    for name, content in (("datagrams.json", datagram_vectors()), ("pages.json", pages)):
+    timers, sealed = timer_vectors.all_vectors(), sealed_vectors.all_vectors()
+    for name, content in (("datagrams.json", datagram_vectors()), ("pages.json", pages), ("timers.json", timers), ("sealed.json", sealed)):
         (folder / name).write_text(json.dumps(content, indent=1) + "\n")
 
 
