@@ -343,19 +343,19 @@ pub requests_are_heard : RequestsAreHeard
 requests_are_heard far me bound t calls now asker word moment n other within by near =
     taken bound (constants_after t events) far moment now delay word s (timers_at me t (Hear now (Request asker n) word true ∷ calls) n) heard
     (answers_stay_near far me bound t (Hear now (Request asker n) word true) calls moment n within by near) where
-  events : List Event
-  events = events_of me calls
+      events : List Event
+      events = events_of me calls
 
-  delay : ℕ
-  delay = delay_to me calls asker
+      delay : ℕ
+      delay = delay_to me calls asker
 
-  s : Timers
-  s = timers_of t events n
+      s : Timers
+      s = timers_of t events n
 
-  heard : timers_at me t (Hear now (Request asker n) word true ∷ calls) n ≡ asked (constants_after t events) true now delay word s
-  heard =
-      ap (λ (b : Bool). timers_of t (cond b events (Asked n true now delay word ∷ events)) n) (false_from_ne_true (nat_eq asker me) (λ e. other (eqb-true asker me e)))
-      ∙ ap (λ (b : Bool). cond b (asked (constants_after t events) true now delay word s) s) (same_name-here n n refl)
+      heard : timers_at me t (Hear now (Request asker n) word true ∷ calls) n ≡ asked (constants_after t events) true now delay word s
+      heard =
+          ap (λ (b : Bool). timers_of t (cond b events (Asked n true now delay word ∷ events)) n) (false_from_ne_true (nat_eq asker me) (λ e. other (eqb-true asker me e)))
+          ∙ ap (λ (b : Bool). cond b (asked (constants_after t events) true now delay word s) s) (same_name-here n n refl)
 
 -- ---- a request timer that was not backed off
 
