@@ -104,11 +104,11 @@ def grouped(head: str, found: dict[str, dict[str, list[str]]]) -> str:
 
 
 def calls_table(crate: str) -> str:
+    """Each definition stands at the first clause that names it."""
     found: dict[str, dict[str, list[str]]] = {}
     linked: set[File] = set()
-    named: dict[tuple[str, str], set[Name]] = {}
+    before: set[Name] = set()
     for group, call, head, names in stated(crate):
-        before = named.setdefault((group, call), set())
         found.setdefault(group, {}).setdefault(call, []).append(told(crate, head, names - before, linked))
         before |= names
     return grouped(CALLS, found)
