@@ -12,7 +12,7 @@ import sys
 from collections.abc import Iterator
 from pathlib import Path
 
-from .reached import ITEM, File, Module, Name, Stated, clauses_of, named_by, public_items, read_imports, words_of
+from .reached import File, Module, Name, Stated, clauses_of, named_by, public_items, read_imports, words_of
 from .sources import CRATES, TOP, crates_below, is_tests
 
 BEGIN = "<!-- made by: python3 -m tests.documents.contracts -->"
@@ -21,8 +21,7 @@ LONGEST_ROW = 180
 LINKS = r"(?<=\])\([^)]*\)"
 # the heads of clauses that a table has; how a value is viewed, and what its type owes to a trait, is left out
 SHOWN = ("ensures", "requires", "invariant", "ghost Value")
-CALLS = "| Of | Clauses |\n|---|---|"
-EDITS = "| Of | Edits that must fail |\n|---|---|"
+HEAD = "| Of | Clauses |\n|---|---|"
 
 
 def page_of(crate: str) -> Path:
@@ -95,70 +94,25 @@ def width(*cells: str) -> int:
     return sum(len(re.sub(LINKS, "", it)) for it in cells)
 
 
-def grouped(head: str, found: dict[str, dict[str, list[str]]]) -> str:
-    """A table of groups, of each its members, and of each of these its parts."""
-    lines = [head]
-    for group, members in found.items():
-        lines += rows(group, [f"{it}: {', '.join(filter(None, of))}".rstrip(": ") for it, of in members.items()])
-    return "\n".join(lines) if found else ""
-
-
-def calls_table(crate: str) -> str:
-    """Each definition stands at the first clause that names it."""
+def clauses(crate: str) -> dict[str, dict[str, list[str]]]:
+    """Of each type, and of calls and laws of none, the calls with their clauses. Each definition stands at the first clause that names it."""
     found: dict[str, dict[str, list[str]]] = {}
     linked: set[File] = set()
     before: set[Name] = set()
     for group, call, head, names in stated(crate):
         found.setdefault(group, {}).setdefault(call, []).append(told(crate, head, names - before, linked))
         before |= names
-    return grouped(CALLS, found)
-
-
-def function_of(text: str, at: int) -> str:
-    """The function of a source that has this place, with its type; empty if none has."""
-    kept, owner = "", ""
-    for item in re.finditer(ITEM, text, re.MULTILINE):
-        if item.start() > text.find("\n", at) >= 0:
-            break
-        word = re.match(r"\W*(\w+)", item["rest"])
-        if item["kind"] == "impl":
-            kept, owner = "", re.sub(r"^\s*<[^>]*>", "", item["rest"]).split(" for ")[-1].split("<")[0].strip(" {")
-        elif item["kind"] == "fn" and word:
-            kept = f"{owner}::{word[1]}" if item["indent"] and owner else word[1]
-        elif not item["indent"]:
-            kept, owner = "", ""
-    return kept
-
-
-def changed_by(edit: Path) -> str:
-    """The first function that an edit changes, or else its first file."""
-    file, first = "", ""
-    texts: dict[str, str] = {}
-    for line in edit.read_text().splitlines():
-        key, _, value = line.partition(": ")
-        if key == "file":
-            file = value.strip()
-            texts.setdefault(file, (edit.parent.parent / file).read_text())
-            first = first or file
-        elif key == "old" and file.startswith("src/") and value in texts[file]:
-            function = function_of(texts[file], texts[file].index(value))
-            if function:
-                return function
-    return first
-
-
-def edits_table(crate: str) -> str:
-    found: dict[str, dict[str, list[str]]] = {}
-    for edit in sorted((CRATES / crate / "must-fail").glob("*.edit")):
-        owner, _, function = changed_by(edit).rpartition("::")
-        found.setdefault(f"`{owner}`" if owner else "", {}).setdefault(f"`{function}`", []).append(f"`{edit.stem}`")
-    return grouped(EDITS, dict(sorted(found.items())))
+    return found
 
 
 def tables(crate: str) -> str:
     """All that a page has after its prose."""
-    found = [it for it in (calls_table(crate), edits_table(crate)) if it]
-    return "\n\n".join([BEGIN, *found]) + "\n"
+    lines = [BEGIN, "", HEAD]
+    for group, members in clauses(crate).items():
+        lines += rows(group, [f"{it}: {', '.join(filter(None, of))}".rstrip(": ") for it, of in members.items()])
+    edits = sorted(it.stem for it in (CRATES / crate / "must-fail").glob("*.edit"))
+    lines += rows("edits that must fail", [f"`{it}`" for it in edits]) if edits else []
+    return "\n".join(lines) + "\n"
 
 
 def prose_of(crate: str) -> str:
