@@ -17,7 +17,7 @@ use Rattle.wb_codec.proofs.GrammarLaws.{reading_takes}
 use Rattle.wb_words.specs.Reading.{begins_datagram, reading as reading_words}
 use Rattle.wb_words.specs.declared.fault.WrongWord.{WrongWord}
 use Rattle.wb_words.specs.declared.digits_fault.DigitsFault.TheVariants as digit_faults
-use Rattle.wb_lines.specs.Words.{words, is_digit, number_after, number_of, unhex}
+use Rattle.wb_lines.specs.Words.{words, is_digit, number_from, number_of, unhex}
 use Rattle.wb_member.specs.declared.calls.Call.TheVariants as calls
 use Rattle.wb_commands.specs.Parsing.{◌>>=◌, or_fault, number, one_of, two_of, four_of, board, distance, tuning, tick, page, question, spelled, datagram, arrived, heard, arrive, hear, handed_in, bytes_line, page_line, command, begins_comment, line_of_words, in_words, line_of}
 use Rattle.wb_commands.specs.declared.fault.LineFault.{LineFault}
@@ -47,19 +47,19 @@ either P false x y p q = q
 abbrev pub IsWithin : ℕ → ℕ → ℕ → Type 0
 IsWithin low high n = (low ≤ n) × (n ≤ high)
 
-number_after_fits : (low high begun : ℕ) (word : List ℕ) → IfSome (number_after low high begun word) (IsWithin low high)
+number_after_fits : (low high begun : ℕ) (word : List ℕ) → IfSome (number_from low high begun word) (IsWithin low high)
 number_after_fits low high begun [] = from (nat_le low begun && nat_le begun high) refl where
   from : (b : Bool) → (nat_le low begun && nat_le begun high) ≡ b → IfSome (if b then Some begun else None) (IsWithin low high)
   from true e = let both = and_both (nat_le low begun) (nat_le begun high) e in (leb-true low begun both.0, leb-true begun high both.1)
   from false e = tt
 number_after_fits low high begun (b ∷ bs) = from (number_after_fits low high (10 * begun + (b - 48)) bs) (is_digit b) where
-  from : IfSome (number_after low high (10 * begun + (b - 48)) bs) (IsWithin low high) → (digit : Bool) → IfSome (if digit then number_after low high (10 * begun + (b - 48)) bs else None) (IsWithin low high)
+  from : IfSome (number_from low high (10 * begun + (b - 48)) bs) (IsWithin low high) → (digit : Bool) → IfSome (if digit then number_from low high (10 * begun + (b - 48)) bs else None) (IsWithin low high)
   from rest true = rest
   from rest false = tt
 
 number_of_fits : (low high : ℕ) (word : List ℕ) → IfSome (number_of low high word) (IsWithin low high)
 number_of_fits low high word = from (nat_eq (length word) 0) where
-  from : (empty : Bool) → IfSome (if empty then None else number_after low high 0 word) (IsWithin low high)
+  from : (empty : Bool) → IfSome (if empty then None else number_from low high 0 word) (IsWithin low high)
   from true = tt
   from false = number_after_fits low high 0 word
 

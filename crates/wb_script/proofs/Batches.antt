@@ -8,7 +8,7 @@ use Rattle.wb_lines.specs.declared.fault.DriveFault.TheVariants as drive_faults
 use Rattle.wb_lines.specs.Input.{InputLine, content}
 use Rattle.wb_lines.specs.Handling.{whole, Step as LineStep}
 use Rattle.wb_lines.specs.Taking.{is_short, is_passed}
-use Rattle.wb_lines.specs.Items.{finished, unreadable, endless, Items, over, group, Begun, begin, grown, closed, Entry, short, long, none as ends_as, entry, by_entry, items_from}
+use Rattle.wb_lines.specs.Items.{finished, unreadable, endless, Items, over, group, Begun, begin, grown, closed_group, LineEntry, short, long, none as ends_as, entry, by_entry, items_from}
 use Rattle.wb_lines.specs.Driving.{Outcome as LinesOutcome, writes, before as text_before, stop}
 use Rattle.wb_lines.specs.Groups.{Proceeds as StepProceeds, IsOutcomeOf}
 use Rattle.wb_lines.proofs.GroupedLines.{parted, first_parts, any_group}
@@ -176,7 +176,7 @@ proceeds number A B (refused u text e) o t settled on p = (
 -- ---- which line is taken
 
 -- an end that comes of an entry
-abbrev fault_by : Entry → Option RunFault
+abbrev fault_by : LineEntry → Option RunFault
 fault_by short = None
 fault_by (long passed) = Some run_faults.Endless
 fault_by (ends_as unreadable) = Some run_faults.Read
@@ -198,12 +198,12 @@ never_finished cut n k line = go (nat_lt n most_lines) (is_short line) (line.end
   go true false c p e = absurd cc
   go false b c p e = absurd cc
 
-by_fault : (cut : Bool) (n : ℕ) (s : State) (line : InputLine) (lines : List InputLine) (e : Entry) (o : Outcome) → entry most_lines cut n line ≡ e
+by_fault : (cut : Bool) (n : ℕ) (s : State) (line : InputLine) (lines : List InputLine) (e : LineEntry) (o : Outcome) → entry most_lines cut n line ≡ e
     → Continues (fault_by e) (n + 1) s (content line) (λ t next. IsOutcomeFrom cut (n + 1) t lines next) o → IsOutcomeFrom cut n s (line ∷ lines) o
 by_fault cut n s line lines e o is h = subst (λ (f : Option RunFault). Continues f (n + 1) s (content line) (λ t next. IsOutcomeFrom cut (n + 1) t lines next) o) (sym (fault_entry cut n line ∙ ap fault_by is)) h
 
 -- the items from a line on, by its entry
-items_by : (cut : Bool) (n : ℕ) (g : Option Begun) (line : InputLine) (lines : List InputLine) (e : Entry) → entry most_lines cut n line ≡ e
+items_by : (cut : Bool) (n : ℕ) (g : Option Begun) (line : InputLine) (lines : List InputLine) (e : LineEntry) → entry most_lines cut n line ≡ e
     → items_from by_batches most_lines cut n g (line ∷ lines) ≡ by_entry by_batches n g line (λ next. items_from by_batches most_lines cut (n + 1) next lines) e
 items_by cut n g line lines e is = ap (by_entry by_batches n g line (λ next. items_from by_batches most_lines cut (n + 1) next lines)) is
 
@@ -316,13 +316,13 @@ begins_line cut n line lines s o t ih none of = at s.host (part_in line) refl re
 none_line : (cut : Bool) (line : InputLine) (lines : List InputLine) → Bridges cut lines → (n : ℕ) (s : State) (o : LinesOutcome LineFault) (t : State) → s.waiting ≡ []
     → Of (items_from by_batches most_lines cut n None (line ∷ lines)) s o t → IsOutcomeFrom cut n s (line ∷ lines) (shown o t)
 none_line cut line lines ih n s o t none of = at (entry most_lines cut n line) refl where
-  Here : Entry → Type 0
+  Here : LineEntry → Type 0
   Here e = Of (by_entry by_batches n None line (λ next. items_from by_batches most_lines cut (n + 1) next lines) e) s o t
 
   stops_so : (end : DriveFault LineFault) (f : RunFault) → answer t (Err f) ≡ Err f → o ≡ stop (Err end) → shown (stop (Err end)) t ≡ prints [] (answer t (Err f)) → Finishes s (Err f) (shown o t)
   stops_so end f e is same = subst (Finishes s (Err f)) (sym (ap (λ (x : LinesOutcome LineFault). shown x t) is ∙ same)) (finishes_none s (Err f) none)
 
-  at : (e : Entry) → entry most_lines cut n line ≡ e → IsOutcomeFrom cut n s (line ∷ lines) (shown o t)
+  at : (e : LineEntry) → entry most_lines cut n line ≡ e → IsOutcomeFrom cut n s (line ∷ lines) (shown o t)
   at short is = by_fault cut n s line lines short (shown o t) is (begins_line cut n line lines s o t ih none (subst (λ (x : Items). Of x s o t) (items_by cut n None line lines short is) of))
   at (long passed) is =
       let h : Here (long passed) = subst (λ (x : Items). Of x s o t) (items_by cut n None line lines (long passed) is) of in
@@ -358,7 +358,7 @@ begun_line cut line lines ih n s g d o t none opened first of = at (entry most_l
   Rest u next = IsOutcomeFrom cut (n + 1) u lines next
 
   -- it ends the batch
-  ended : (e : Entry) → entry most_lines cut n line ≡ e → EndsBatch cut n (line ∷ lines)
+  ended : (e : LineEntry) → entry most_lines cut n line ≡ e → EndsBatch cut n (line ∷ lines)
       → by_entry by_batches n (Some g) line (λ next. items_from by_batches most_lines cut (n + 1) next lines) e ≡ group g.number (whole g.first) g.joined (by_entry by_batches n None line (λ next. items_from by_batches most_lines cut (n + 1) next lines) e)
       → IsOutcomeFrom cut n m (line ∷ lines) (shown o t)
   ended e is ends_here same =
@@ -371,7 +371,7 @@ begun_line cut line lines ih n s g d o t none opened first of = at (entry most_l
       let here = subst (λ (x : Items). Of x s o t) (items_by cut n (Some g) line lines short e) of in
       let gathers : (by_batches.gathers g.first && by_batches.joins line) ≡ true = ap (λ (p : Part). is_arrival p && joins_batch (part_in line)) first ∙ ap joins_batch is ∙ joins in
       subst (λ (x : Items). Of x s o t)
-      (ap (λ (b : Bool). if b then items_from by_batches most_lines cut (n + 1) (Some (grown g line)) lines else closed (Some g) (items_from by_batches most_lines cut (n + 1) (Some (begin (n + 1) line)) lines)) gathers) here
+      (ap (λ (b : Bool). if b then items_from by_batches most_lines cut (n + 1) (Some (grown g line)) lines else closed_group (Some g) (items_from by_batches most_lines cut (n + 1) (Some (begin (n + 1) line)) lines)) gathers) here
 
   after : (part : Part) → part_in line ≡ part → joins_batch part ≡ true → entry most_lines cut n line ≡ short → Rest (with_more m (arrived_by part)) (shown o t)
   after part is joins e =
@@ -399,9 +399,9 @@ begun_line cut line lines ih n s g d o t none opened first of = at (entry most_l
   taken_line (End c) is e =
       let apart : (by_batches.gathers g.first && by_batches.joins line) ≡ false = ap (λ (p : Part). is_arrival p && joins_batch (part_in line)) first ∙ ap joins_batch is in
       ended short e (ends_at cut n line lines None (End c) (fault_entry cut n line ∙ ap fault_by e) is tt)
-      (ap (λ (b : Bool). if b then items_from by_batches most_lines cut (n + 1) (Some (grown g line)) lines else closed (Some g) (items_from by_batches most_lines cut (n + 1) (Some (begin (n + 1) line)) lines)) apart)
+      (ap (λ (b : Bool). if b then items_from by_batches most_lines cut (n + 1) (Some (grown g line)) lines else closed_group (Some g) (items_from by_batches most_lines cut (n + 1) (Some (begin (n + 1) line)) lines)) apart)
 
-  at : (e : Entry) → entry most_lines cut n line ≡ e → IsOutcomeFrom cut n m (line ∷ lines) (shown o t)
+  at : (e : LineEntry) → entry most_lines cut n line ≡ e → IsOutcomeFrom cut n m (line ∷ lines) (shown o t)
   at short e = taken_line (part_in line) refl e
   at (long passed) e = ended (long passed) e (ends_at cut n line lines (Some run_faults.Endless) (part_in line) (fault_entry cut n line ∙ ap fault_by e) refl tt) refl
   at (ends_as unreadable) e = ended (ends_as unreadable) e (ends_at cut n line lines (Some run_faults.Read) (part_in line) (fault_entry cut n line ∙ ap fault_by e) refl tt) refl

@@ -5,7 +5,7 @@ use Rattle.wb_lines.specs.declared.fault.DriveFault.TheVariants as faults
 use Rattle.wb_lines.specs.Input.{InputLine, input_lines, BeginsWith}
 use Rattle.wb_lines.specs.Handling.{too_long, Step as LineStep, goes as goes_on, stops as stops_at, ends}
 use Rattle.wb_lines.specs.Taking.{is_short, is_passed}
-use Rattle.wb_lines.specs.Items.{finished, unreadable, endless, Items, over, group, Begun, begin, grown, closed, short, long, none as ends_as, by_entry, items_from}
+use Rattle.wb_lines.specs.Items.{finished, unreadable, endless, Items, over, group, Begun, begin, grown, closed_group, short, long, none as ends_as, by_entry, items_from}
 use Rattle.wb_lines.specs.Driving.{Outcome as LinesOutcome, writes, Meets as LinesMeets}
 use Rattle.wb_lines.specs.Groups.{group_rules, Proceeds as StepProceeds, IsOutcomeOf, IsOutcome as IsLinesOutcome}
 use Rattle.wb_lines.specs.Steps.{MeetsOne}
@@ -35,7 +35,7 @@ abbrev FewBegun : Option Begun → Type 0
 FewBegun None = Unit {0}
 FewBegun (Some g) = g.number ≤ most_lines
 
-few_closed : (g : Option Begun) (is : Items) → FewBegun g → Few is → Few (closed g is)
+few_closed : (g : Option Begun) (is : Items) → FewBegun g → Few is → Few (closed_group g is)
 few_closed None is f h = h
 few_closed (Some g) is f h = (f, h)
 
@@ -45,7 +45,7 @@ few_items cut n g (line ∷ lines) f = go (λ next h. few_items cut (n + 1) next
   joined : (on : (next : Option Begun) → FewBegun next → Few (items_from by_batches most_lines cut (n + 1) next lines)) (g : Option Begun) → FewBegun g → n + 1 ≤ most_lines → Few (by_entry by_batches n g line (λ next. items_from by_batches most_lines cut (n + 1) next lines) short)
   joined on None f few = on (Some (begin (n + 1) line)) few
   joined on (Some g) f few = at (by_batches.gathers g.first && by_batches.joins line) where
-    at : (b : Bool) → Few (if b then items_from by_batches most_lines cut (n + 1) (Some (grown g line)) lines else closed (Some g) (items_from by_batches most_lines cut (n + 1) (Some (begin (n + 1) line)) lines))
+    at : (b : Bool) → Few (if b then items_from by_batches most_lines cut (n + 1) (Some (grown g line)) lines else closed_group (Some g) (items_from by_batches most_lines cut (n + 1) (Some (begin (n + 1) line)) lines))
     at true = on (Some (grown g line)) f
     at false = (f, on (Some (begin (n + 1) line)) few)
 

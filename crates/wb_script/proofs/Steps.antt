@@ -8,7 +8,7 @@ use Rattle.wb_lines.specs.declared.handler.Stop.{Stop}
 use Rattle.wb_lines.specs.declared.handler.Stop.TheVariants as stops
 use Rattle.wb_lines.specs.declared.lines.Seen.TheVariants as seens
 use Rattle.wb_lines.specs.Input.{InputLine, BeginsWith}
-use Rattle.wb_lines.specs.Handling.{whole, Step as LineStep, goes as goes_on, stops as stops_at, ends as ends_at, text_of, Does}
+use Rattle.wb_lines.specs.Handling.{whole, Step as LineStep, goes as goes_on, stops as stops_at, ends as ends_at, step_text, Does}
 use Rattle.wb_lines.specs.Moments.{LinesValue, HasJoined, is_broken}
 use Rattle.wb_lines.specs.Steps.{DoesOne, TakesAll as TakesGroup, DoesGroup}
 use Rattle.wb_commands.specs.declared.fault.LineFault.{LineFault}
@@ -198,7 +198,7 @@ arrives_nowhere s number h new d first v at none is = λ all. subst (λ (part : 
 -- it was not taken, or not printed
 pub arrives_refused : (s : State) (number : ℕ) (new : HostValue) (first : InputLine) (joined : List InputLine) (v : LinesValue Said) (printed : List ℕ) → printed ≡ []
     → DoesGroup {U = Unit {0}} by_batches (IsAt new) printed (may_take s number (whole first)) first joined v (Err stops.Memory)
-arrives_refused s number new first joined v printed none = λ all. let one = some_step s number (whole first) all in (one.0, one.1, (text_of one.0, ap (λ (t : List ℕ). t ++ text_of one.0) (sym none)))
+arrives_refused s number new first joined v printed none = λ all. let one = some_step s number (whole first) all in (one.0, one.1, (step_text one.0, ap (λ (t : List ℕ). t ++ step_text one.0) (sym none)))
 
 -- it was taken in some order
 taken_in : (old after : MemberValue) (d : DrawopValue) (ds order : List DrawopValue) (n : Counts) (host : Opened) → IsPermutation (d ∷ ds) order → IsOpenAt old host → IsOpenAt after (batched (d ∷ ds) order host)

@@ -2,7 +2,7 @@ use Rattle.std.proofs.Common.{ℕ, [], None, Ok, Err, refl, ap, ◌∙◌}
 use Rattle.std.proofs.lemmas.Result.{err_from_is_err_and}
 use Rattle.wb_lines.specs.declared.handler.Stop.TheVariants as stops
 use Rattle.wb_lines.specs.declared.lines.First.TheVariants as firsts
-use Rattle.wb_lines.specs.Steps.{fault_of}
+use Rattle.wb_lines.specs.Steps.{driver_fault}
 use Rattle.wb_lines.proofs.Moments.{Moves-none}
 use Rattle.wb_lines.proofs.Turns.{drive_starts, drive_goes, drive_stops, drive_ends}
 use Rattle.wb_script.specs.Inside.Parts.{Says, by_batches}
@@ -29,7 +29,7 @@ pub returns-in-Err-clause-all : goal.returns-in-Err-clause-all
 returns-in-Err-clause-all g c =
     let next = rw c.in-Some.is at c.in_ok-first.ensures.next in
     let t = c.in-Err.ensures.text in
-    rw (c.fault_of.ensures.fault ∙ ap (λ (n : ℕ). fault_of n c.in-Err.stop) c.done-number.ensures.count)
+    rw (c.fault_of.ensures.fault ∙ ap (λ (n : ℕ). driver_fault n c.in-Err.stop) c.done-number.ensures.count)
     (drive_stops by_batches Says may_take (IsAt c.args.host.now) (IsAt c.loop-first.host) (IsAt c.take.new.self) (firsts.Line c.in-Line.said) c.in-Err.stop some_step c.in_ok-first.ensures.sound (rw c.in-Line.is at next) (t.0, t.2.moves, (t.1, t.2.joins, t.3)) c.loop-first.invariant)
 
 pub loop-first-preserved : goal.loop-first-preserved
