@@ -21,7 +21,7 @@ use Rattle.wb_lines.specs.Words.{number_from, number_of, words, words_after}
 use Rattle.wb_member.specs.declared.calls.Call.TheVariants.{Tick}
 use Rattle.wb_commands.specs.declared.command.Command.{Command}
 use Rattle.wb_commands.specs.declared.command.Command.TheVariants as lines
-use Rattle.wb_commands.specs.Parsing.{command, handed_in, line_of as script_line_of, tick, ◌>>=◌}
+use Rattle.wb_commands.specs.Parsing.{script_command, handed_in, script_line_of, tick, ◌>>=◌}
 use Rattle.wb_commands.specs.SentLines.{digits_of}
 use Rattle.wb_commands.proofs.SentDigits.{taken}
 use Rattle.wb_judging.specs.declared.record.RecordLine.{RecordLine}
@@ -84,7 +84,7 @@ draws d fits = ap first_is_kind (words_spelled (Draw d) fits)
 -- ---- each line
 
 tick_line : (now : ℕ) → now ≤ MAX_MOMENT → script_line_of (codes "tick " ++ decimal now) ≡ Ok (lines.Call (Tick now))
-unfolding command tick
+unfolding script_command tick
 tick_line now le = rw (ticks (decimal now), number_is_word now (omega (arith, le)), moment_again now le) refl
 
 recorded_as : (line : List ℕ) (words' : Bool) (command' : Command) → script_line_of line ≡ Ok command' → begins_datagram line ≡ words' → (script_line_of line >>= recorded (begins_datagram line)) ≡ recorded words' command'

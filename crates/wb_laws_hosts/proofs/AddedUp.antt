@@ -22,7 +22,7 @@ use Rattle.wb_commands.specs.Answers.{batch_line}
 use Rattle.wb_commands.specs.declared.command.Command.{Command}
 use Rattle.wb_commands.specs.declared.command.Command.TheVariants as lines
 use Rattle.wb_commands.specs.declared.fault.LineFault.{LineFault}
-use Rattle.wb_commands.specs.Parsing.{line_of as script_line_of}
+use Rattle.wb_commands.specs.Parsing.{script_line_of}
 use Rattle.wb_keeper.specs.Keeper.{KeeperCall, Arrive, holds}
 use Rattle.wb_keeper.proofs.KeptCalls.{holds_one_more}
 use Rattle.wb_member.specs.Members.{names_of}

@@ -16,7 +16,7 @@ use Rattle.wb_script.specs.declared.running.Summary.{Summary}
 use Rattle.wb_member.specs.Opened.{Opened, becomes, board_of}
 use Rattle.wb_script.specs.Hosts.{taken, batch_text, script_constants}
 use Rattle.wb_commands.specs.Acts.{Act, does, fails, act}
-use Rattle.wb_commands.specs.Parsing.{line_of as script_line_of}
+use Rattle.wb_commands.specs.Parsing.{script_line_of}
 use Rattle.wb_script.specs.Reordering.{part_unless, batches_with, batches_of}
 use Rattle.wb_script.specs.Script.{State as Board, start, closing_text, after_batch, Part, Arrival, part_of, Step, goes, refused, step_by, part_step, said_step, Outcome, prints, before, finish, proceed, continue, most_lines, outcome_from, IsOutcome}
 use Rattle.wb_dialog.specs.declared.line.DriverLine.TheVariants.{Script}

@@ -14,7 +14,7 @@ use Rattle.wb_lines.specs.Groups.{Proceeds as StepProceeds, IsOutcomeOf}
 use Rattle.wb_lines.proofs.GroupedLines.{parted, first_parts, any_group}
 use Rattle.wb_commands.specs.declared.fault.LineFault.{LineFault}
 use Rattle.wb_commands.specs.declared.fault.LineFault.TheVariants as faults
-use Rattle.wb_commands.specs.Parsing.{line_of}
+use Rattle.wb_commands.specs.Parsing.{script_line_of}
 use Rattle.wb_commands.specs.Acts.{Act, does, fails, act}
 use Rattle.wb_member.specs.Opened.{Opened, board_of, by_host}
 use Rattle.wb_script.specs.declared.fault.RunFault.{RunFault}
@@ -114,13 +114,13 @@ abbrev EndsBatch : Bool → ℕ → List InputLine → Type 0
 EndsBatch cut n [] = Unit {0}
 EndsBatch cut n (line ∷ lines) = EndsAt (fault_at cut n line) (part_in line)
 
-continues_behind : (fault : Option RunFault) (part : Part) (number : ℕ) (Rest : State → Outcome → Type 0) (s : State) (order : List DrawopValue) (bytes : List ℕ) (o : Outcome) → part_of (line_of bytes) ≡ part → IsOpen s.host → MayBeTaken s.workers s.waiting order → EndsAt fault part
+continues_behind : (fault : Option RunFault) (part : Part) (number : ℕ) (Rest : State → Outcome → Type 0) (s : State) (order : List DrawopValue) (bytes : List ℕ) (o : Outcome) → part_of (script_line_of bytes) ≡ part → IsOpen s.host → MayBeTaken s.workers s.waiting order → EndsAt fault part
     → Continues fault number (after_batch s order) bytes Rest o → Continues fault number s bytes Rest (before (closing_text s order) o)
 continues_behind (Some e) part number Rest s order bytes o is opened may ends p = finish_behind s order (Err e) o may p
 continues_behind None (End c) number Rest s order bytes o is opened may ends p =
     let nothing : p.0 ≡ [] = none_taken s.workers p.0 p.1 in
     let here : Proceeds number Rest o (part_step (after_batch s order) [] (End c)) =
-    subst (λ (x : Part). Proceeds number Rest o (part_step (after_batch s order) [] x)) is (subst (λ (l : List DrawopValue). Proceeds number Rest o (part_step (after_batch s order) l (part_of (line_of bytes)))) nothing p.2) in
+    subst (λ (x : Part). Proceeds number Rest o (part_step (after_batch s order) [] x)) is (subst (λ (l : List DrawopValue). Proceeds number Rest o (part_step (after_batch s order) l (part_of (script_line_of bytes)))) nothing p.2) in
     (order, may, subst (λ (x : Part). Proceeds number Rest (before (closing_text s order) o) (part_step s order x)) (sym is) (step_behind number Rest s order c o opened here))
 continues_behind None (Arrival d) number Rest s order bytes o is opened may ends p = absurd ends
 continues_behind None Nothing number Rest s order bytes o is opened may ends p = absurd ends

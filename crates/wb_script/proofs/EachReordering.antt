@@ -8,7 +8,7 @@ use Rattle.wb_commands.specs.declared.fault.LineFault.TheVariants as faults
 use Rattle.wb_script.specs.declared.fault.RunFault.{RunFault}
 use Rattle.wb_script.specs.declared.fault.RunFault.TheVariants as run_faults
 use Rattle.wb_member.specs.Opened.{Opened}
-use Rattle.wb_commands.specs.Parsing.{line_of}
+use Rattle.wb_commands.specs.Parsing.{script_line_of}
 use Rattle.wb_script.specs.Reordering.{part_unless, part_at, other_than, others_of, onto_batch, batches_with, batches_of, AreRearranged, EachReorderingIsOutcome}
 use Rattle.wb_lines.specs.Input.{InputLine, input_lines, content}
 use Rattle.wb_script.specs.Script.{State, MayBeTaken, closing_text, after_batch, Closing, Part, Arrival, Nothing, End, part_of, part_in, Step, goes, refused, part_step, Outcome, before, finish, proceed, continue, outcome_from, Finishes, Proceeds, fault_at, Continues, IsOutcomeFrom}
@@ -31,7 +31,7 @@ drawops_same (x ∷ xs) [] e = absurd cc
 drawops_same (x ∷ xs) (y ∷ ys) e =
     let heads : content x.line ≡ content y.line = cc in
     let tails : contents_in xs ≡ contents_in ys = cc in
-    ap₂ (λ (d : DrawopValue) (ds : List DrawopValue). d ∷ ds) (arrival_same x.drawop y.drawop (part_in x.line) x.said (ap (λ (bytes : List ℕ). part_of (line_of bytes)) heads ∙ y.said)) (drawops_same xs ys tails)
+    ap₂ (λ (d : DrawopValue) (ds : List DrawopValue). d ∷ ds) (arrival_same x.drawop y.drawop (part_in x.line) x.said (ap (λ (bytes : List ℕ). part_of (script_line_of bytes)) heads ∙ y.said)) (drawops_same xs ys tails)
 
 drawops_moved : {cut : Bool} (xs ys : List (Taken cut)) → IsPermutation (contents_in xs) (contents_in ys) → IsPermutation (drawops_in xs) (drawops_in ys)
 drawops_moved xs ys p =

@@ -24,7 +24,7 @@ use Rattle.wb_script.specs.Hosts.{opened, taken, batch_text}
 use Rattle.wb_commands.specs.Acts.{Act, does, fails, tells, act}
 use Rattle.wb_member.specs.Holding.{board_after}
 use Rattle.wb_script.specs.Laws.{NoneClash, HasCells}
-use Rattle.wb_commands.specs.Parsing.{line_of}
+use Rattle.wb_commands.specs.Parsing.{script_line_of}
 use Rattle.wb_member.specs.Queries.{view_of}
 use Rattle.wb_lines.specs.Input.{InputLine, input_lines, content}
 use Rattle.wb_script.specs.Script.{State, start, after_batch, Closing, Opens, Acts, Part, Arrival, Nothing, End, part_of, part_in, Step, goes, refused, step_by, part_step, step_of, Outcome, prints, before, answer, proceed, outcome_from}
@@ -175,7 +175,7 @@ shown_on n k (Some host) waiting ds page width height text sum h e =
           ∙ ap (λ (l : List DrawopValue). closing ++ canvas_text (view_of l page) width height) h,
     )
 
-shown_at : (n : ℕ) (s : State) (ds : List DrawopValue) (question : List ℕ) (page : PageId) (width height : ℕ) (text : List ℕ) (sum : Summary) (fits : Bool) → fit n (whole_line question) ≡ fits → line_of (strip_carriage_return question) ≡ Ok (Question (Canvas page width height))
+shown_at : (n : ℕ) (s : State) (ds : List DrawopValue) (question : List ℕ) (page : PageId) (width height : ℕ) (text : List ℕ) (sum : Summary) (fits : Bool) → fit n (whole_line question) ≡ fits → script_line_of (strip_carriage_return question) ≡ Ok (Question (Canvas page width height))
     → Leads s.host s.waiting ds → outcome_from false n s (whole_line question ∷ []) ≡ prints text (Ok sum)
     → EndsWith text (canvas_text (view_of (history_after (cells_at s.host 0) [] ds) page) width height)
 shown_at n s ds question page width height text sum false f said h e = absurd (err_end [] text s sum run_faults.Endless (sym (too_many false n s (whole_line question) [] f) ∙ e))

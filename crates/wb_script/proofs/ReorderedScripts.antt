@@ -9,7 +9,7 @@ use Rattle.wb_lines.specs.Ahead.{NoLineFeed}
 use Rattle.wb_lines.specs.Input.{InputLine, input_lines, content, most_bytes}
 use Rattle.wb_lines.proofs.StandingLines.{all_bytes, AreLines, reads, lines_again, stripped}
 use Rattle.wb_script.specs.declared.fault.RunFault.{RunFault}
-use Rattle.wb_commands.specs.Parsing.{line_of}
+use Rattle.wb_commands.specs.Parsing.{script_line_of}
 use Rattle.wb_script.specs.Reordering.{part_at, other_than, others_of, batches_with, batches_of, AreRearranged, IsReorderedBy, WorkersAreOneThread}
 use Rattle.wb_script.specs.Script.{State, start, Outcome, Arrival, Part, part_of, part_in, Step, goes, refused, step_of, before, proceed, continue, outcome_from, fault_at}
 use Rattle.wb_script.specs.ScriptLaws.{EachEnds}
@@ -81,7 +81,7 @@ is_placed : (cut : Bool) (n : ℕ) (place line : InputLine) → Matches cut n pl
 is_placed cut n place line (inl e) = inl (subst (λ (l : InputLine). placed place l ≡ l) (sym e) (placed_same place.bytes place.ended))
 is_placed cut n place line (inr m) =
     let same : content (placed place line) ≡ content line = content_placed place line m.1.drawop m.1.said in
-    inr (m.1, record { free = free_placed cut n place line m.0 m.1; drawop = m.1.drawop; said = ap (λ (b : List ℕ). part_of (line_of b)) same ∙ m.1.said }, same)
+    inr (m.1, record { free = free_placed cut n place line m.0 m.1; drawop = m.1.drawop; said = ap (λ (b : List ℕ). part_of (script_line_of b)) same ∙ m.1.said }, same)
 
 abbrev ArePlaced : Bool → ℕ → List InputLine → List InputLine → Type 0
 ArePlaced cut n [] [] = Unit {0}
@@ -106,7 +106,7 @@ content_stays cut n line new (inr p) = p.2
 part_stays : (cut : Bool) (n : ℕ) (line new : InputLine) → IsPlaced cut n line new → part_at cut n new ≡ part_at cut n line
 part_stays cut n line new (inl e) = ap (part_at cut n) e
 part_stays cut n line new (inr p) =
-    part_here cut n new (Arrival p.1.drawop) p.1.free p.1.said ∙ ap Some (sym p.1.said ∙ ap (λ (b : List ℕ). part_of (line_of b)) p.2 ∙ p.0.said) ∙ sym (part_here cut n line (Arrival p.0.drawop) p.0.free p.0.said)
+    part_here cut n new (Arrival p.1.drawop) p.1.free p.1.said ∙ ap Some (sym p.1.said ∙ ap (λ (b : List ℕ). part_of (script_line_of b)) p.2 ∙ p.0.said) ∙ sym (part_here cut n line (Arrival p.0.drawop) p.0.free p.0.said)
 
 proceeds_same : (number : ℕ) (step : Step) (one other : State → Outcome) → ((t : State) → one t ≡ other t) → proceed number step one ≡ proceed number step other
 proceeds_same number (goes t text) one other same = ap (before text) (same t)

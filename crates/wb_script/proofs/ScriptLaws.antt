@@ -11,7 +11,7 @@ use Rattle.wb_lines.specs.Ahead.{IsLine}
 use Rattle.wb_member.specs.Opened.{Opened}
 use Rattle.wb_script.specs.Hosts.{opened}
 use Rattle.wb_commands.specs.Acts.{Act, does, fails, act}
-use Rattle.wb_commands.specs.Parsing.{line_of}
+use Rattle.wb_commands.specs.Parsing.{script_line_of}
 use Rattle.wb_script.specs.Script.{Begins, State, start, closing_text, after_batch, Closing, Opens, Acts, Part, Arrival, Nothing, End, part_of, part_in, Step, goes, refused, step_by, closing_step, part_step, step_of, Outcome, prints, before, answer, finish, proceed, continue, most_lines, outcome_from, outcome}
 use Rattle.wb_lines.specs.Input.{InputLine, onto_first, input_lines, content, most_bytes}
 use Rattle.wb_script.specs.ScriptLaws.{EachEnds, waits_after, waits_at_end, text_of, RefusedStays, PrintedStays, SkippedPrintsNothing}
@@ -194,7 +194,7 @@ text_later cut n s (line ∷ lines) few =
     rw (later, now) (text_continue _ (n + 1 + 1) (n + 1) s (content line) (λ t. outcome_from cut (n + 1 + 1) t lines) (λ t. outcome_from cut (n + 1) t lines) (λ t. text_later cut (n + 1) t lines (omega arith)))
 
 -- a skipped line, and then the others
-skips : (cut : Bool) (n : ℕ) (s : State) (line : List ℕ) (lines : List InputLine) → IsLine line → line_of (strip_carriage_return line) ≡ Ok Skip → n + length lines < most_lines
+skips : (cut : Bool) (n : ℕ) (s : State) (line : List ℕ) (lines : List InputLine) → IsLine line → script_line_of (strip_carriage_return line) ≡ Ok Skip → n + length lines < most_lines
     → text_of (outcome_from cut n s (whole_line line ∷ lines)) ≡ text_of (outcome_from cut n s lines)
 skips cut n s line lines is skip few =
     let first : outcome_from cut n s (whole_line line ∷ lines) ≡ proceed (n + 1) (step_of s s.waiting (strip_carriage_return line)) (λ t. outcome_from cut (n + 1) t lines) =

@@ -9,7 +9,7 @@ use Rattle.wb_commands.specs.declared.fault.LineFault.{LineFault}
 use Rattle.wb_script.specs.declared.fault.RunFault.{RunFault}
 use Rattle.wb_script.specs.declared.fault.RunFault.TheVariants as run_faults
 use Rattle.wb_commands.specs.declared.command.Command.{Command}
-use Rattle.wb_commands.specs.Parsing.{line_of}
+use Rattle.wb_commands.specs.Parsing.{script_line_of}
 use Rattle.wb_script.specs.Script.{most_lines}
 
 -- A line that parses is passed over, and another stops the check. Nothing is remembered or printed.
@@ -18,7 +18,7 @@ parsed_step (Ok line) = goes [] tt
 parsed_step (Err e) = stops [] e
 
 abbrev pub check_step : Unit {0} → ℕ → Met → Step (Unit {0}) LineFault
-check_step s number (whole line) = parsed_step (line_of (content line))
+check_step s number (whole line) = parsed_step (script_line_of (content line))
 check_step s number too_long = ends []
 
 -- why a check stops, by why its driver does
@@ -53,7 +53,7 @@ pub record IsWithinLimits (input : List ℕ) : Type 0 where
 
 -- Each line parses.
 abbrev pub EachLineParses : List ℕ → Type 0
-EachLineParses input = All (λ line. IsOk (line_of (content line))) (input_lines input)
+EachLineParses input = All (λ line. IsOk (script_line_of (content line))) (input_lines input)
 
 -- A number is the answer exactly if it counts the lines, and the input is within the limits and each line parses.
 abbrev pub CountsLines : Type 0

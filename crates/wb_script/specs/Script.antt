@@ -12,7 +12,7 @@ use Rattle.wb_lines.specs.Input.{InputLine, input_lines, content, most_bytes, Be
 use Rattle.wb_member.specs.Opened.{Opened, board_of, by_host}
 use Rattle.wb_script.specs.Hosts.{opened, taken, batch_text}
 use Rattle.wb_commands.specs.Acts.{Act, does, fails, act}
-use Rattle.wb_commands.specs.Parsing.{line_of}
+use Rattle.wb_commands.specs.Parsing.{script_line_of}
 
 -- the host, once it is open; how many workers take its batches, once that is known; and the arrivals of the present batch
 pub record State : Type 0 where
@@ -74,7 +74,7 @@ part_of (Ok (Question query)) = End (Acts (Question query))
 part_of (Err e) = End (Faulty e)
 
 abbrev pub part_in : InputLine → Part
-part_in line = part_of (line_of (content line))
+part_in line = part_of (script_line_of (content line))
 
 -- ---- what a line does
 
@@ -105,7 +105,7 @@ abbrev pub said_step : State → List DrawopValue → Result Command LineFault �
 said_step s order said = part_step s order (part_of said)
 
 abbrev pub step_of : State → List DrawopValue → List ℕ → Step
-step_of s order bytes = said_step s order (line_of bytes)
+step_of s order bytes = said_step s order (script_line_of bytes)
 
 -- what a script prints in all, and its end
 pub data Outcome : Type 0 where

@@ -7,7 +7,7 @@ use Rattle.wb_script.specs.declared.fault.RunFault.{RunFault}
 use Rattle.wb_commands.specs.declared.command.Command.TheVariants.{Skip}
 use Rattle.wb_script.specs.declared.running.Summary.{Summary}
 use Rattle.wb_lines.specs.Ahead.{IsLine}
-use Rattle.wb_commands.specs.Parsing.{line_of}
+use Rattle.wb_commands.specs.Parsing.{script_line_of}
 use Rattle.wb_script.specs.Script.{Begins, IsAlone, Opens, Part, Arrival, Nothing, End, part_in, most_lines, Outcome, prints, outcome, IsOutcome}
 use Rattle.wb_lines.specs.Input.{InputLine, input_lines}
 
@@ -43,7 +43,7 @@ PrintedStays = (workers : Option ℕ) (front more text : List ℕ) (cut : Bool) 
 
 -- A skipped line that a line feed ends changes nothing of the text, wherever it stands, while the lines are not too many.
 abbrev pub SkippedPrintsNothing : Type 0
-SkippedPrintsNothing = (workers : Option ℕ) (front line more : List ℕ) (cut : Bool) → EachEnds (input_lines front) → IsLine line → line_of (strip_carriage_return line) ≡ Ok Skip
+SkippedPrintsNothing = (workers : Option ℕ) (front line more : List ℕ) (cut : Bool) → EachEnds (input_lines front) → IsLine line → script_line_of (strip_carriage_return line) ≡ Ok Skip
     → length (input_lines (front ++ more)) < most_lines → text_of (outcome workers cut (front ++ (line ++ 10 ∷ more))) ≡ text_of (outcome workers cut (front ++ more))
 
 -- all that a batch has counted

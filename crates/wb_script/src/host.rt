@@ -8,7 +8,7 @@ ghost use Rattle.wb_lines.specs.Moments.{Reads};
 ghost use Rattle.wb_lines.specs.Progress.{reached};
 ghost use Rattle.wb_lines.specs.Steps.{DoesGroup};
 ghost use Rattle.wb_board.specs.Counts.{IsCellCount, IsWorkerCount};
-ghost use Rattle.wb_commands.specs.Parsing.{IsWithin};
+ghost use Rattle.wb_commands.specs.Parsing.{IsScriptWithin};
 ghost use Rattle.wb_script.specs.Script.{State, IsAlone, Acts, Arrival, End, part_in, part_of, held_count, part_step, said_step};
 ghost use Rattle.wb_script.specs.Inside.Parts.{by_batches, EndsBatchAt, Says};
 ghost use Rattle.wb_script.specs.Inside.Steps.{IsAt, MayDoStep, may_take, faulted};
@@ -119,7 +119,7 @@ impl<'a, T, G> Host<'a, T, G> {
         command: &Command,
         output: &mut Output,
     ) -> Result<(), Stop<LineFault>>
-        requires { IsWithin command.now }
+        requires { IsScriptWithin command.now }
         ensures refused { self.new.refused ≡ self.old.refused }
         ensures text { (written : List ℕ) × (output.new ≡ output.old ++ written) ×
             ((s : State) → IsAt self.old s → MayDoStep s self.new written result
@@ -138,7 +138,7 @@ impl<'a, T, G> Host<'a, T, G> {
         command: &Command,
         output: &mut Output,
     ) -> Result<(), Stop<LineFault>>
-        requires command { IsWithin command.now }
+        requires command { IsScriptWithin command.now }
         requires other { EndsBatchAt (part_of (Ok command.now)) }
         ensures refused { self.new.refused ≡ self.old.refused }
         ensures text { (written : List ℕ) × (output.new ≡ output.old ++ written) ×
