@@ -8,7 +8,7 @@ use Rattle.wb_lines.specs.Driving.{Gave, Meets}
 use Rattle.wb_lines.specs.Input.{BeginsWith, input_lines}
 use Rattle.wb_lines.specs.declared.fault.DriveFault.{DriveFault}
 use Rattle.wb_lines.specs.declared.fault.DriveFault.TheVariants as filter_faults
-use Rattle.wb_script.specs.Runs.{Runs}
+use Rattle.wb_script.specs.Runs.{RunsScript}
 use Rattle.wb_script.specs.Checking.{Checks}
 use Rattle.wb_script.specs.Faults.{run_text}
 use Rattle.wb_script.specs.declared.fault.RunFault.{RunFault}
@@ -88,7 +88,7 @@ Approves (Err fault) written ended = (written ≡ []) × (ended ≡ Err fault)
 -- Of an input, which is cut off if reading fails after it, a task wrote this, and so it ended.
 abbrev pub Performs : Task → Bool → List ℕ → List ℕ → Result (Unit {0}) Failure → Type 0
 Performs (tasks.Run workers) cut input written ended =
-    (r : Result Summary RunFault) × Runs workers cut input written r × (ended ≡ as_task failures.Run r)
+    (r : Result Summary RunFault) × RunsScript workers cut input written r × (ended ≡ as_task failures.Run r)
 Performs tasks.Check cut input written ended =
     (r : Result ℕ RunFault) × Checks cut input r × ((end : Result (Unit {0}) RunFault) × Approves r written end × (ended ≡ as_task failures.Run end))
 Performs (tasks.Turn filter) cut input written ended =

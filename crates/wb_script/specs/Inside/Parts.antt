@@ -36,5 +36,5 @@ abbrev pub by_batches : Grouping
 by_batches = record { gathers = λ line. is_arrival (part_in line); joins = λ line. joins_batch (part_in line) }
 
 -- A line says this, with its numbers in range.
-abbrev pub Says : InputLine → Said → Type 0
-Says line said = (said.said ≡ script_line_of (content line)) × IfOk said.said IsScriptWithin
+abbrev pub LineSays : InputLine → Said → Type 0
+LineSays line said = (said.said ≡ script_line_of (content line)) × IfOk said.said IsScriptWithin
