@@ -39,7 +39,7 @@ use Rattle.wb_script.proofs.Telling.{taken_alone}
 use Rattle.wb_dialog.specs.declared.line.DriverLine.TheVariants.{Script}
 use Rattle.wb_dialog.specs.Dialog.{State, Answer, gives, answered, arrives, answer_to, answer_of, block, state_after, blocks_from, answered_lines, due}
 use Rattle.wb_dialog.proofs.DrivenHosts.{AreGiven, blocks_given}
-use Rattle.wb_laws_hosts.specs.RunLaws.{IsAddedUp, AddsUp, counted_text, counted_with, PrintsAddedUp, IsTold, ThreadIsTold, RunIsTold}
+use Rattle.wb_laws_hosts.specs.RunLaws.{IsAddedUp, AddsUp, counted_text, counted_with, PrintsAddedUp, IsRunTold, ThreadIsTold, RunIsTold}
 use Rattle.wb_laws_hosts.proofs.RunTexts.{board, closing, answer_is, closing_again, neither}
 
 -- ---- counts
@@ -401,7 +401,7 @@ refused_told input text number front behind is many told =
     let same : take (number - 1) (input_lines input) ≡ front = ap (λ (k : ℕ). take k (input_lines input)) count ∙ ap (take (length front)) is ∙ take-append_seam front behind in
     subst (λ (lines : List InputLine). PrintsAddedUp lines text) (sym same) told
 
-told_so : (workers : Option ℕ) (cut : Bool) (input : List ℕ) (o : RunOutcome) → Agrees cut 0 (run_start workers) None (input_lines input) o → IsTold cut input o
+told_so : (workers : Option ℕ) (cut : Bool) (input : List ℕ) (o : RunOutcome) → Agrees cut 0 (run_start workers) None (input_lines input) o → IsRunTold cut input o
 told_so workers cut input (prints text (Ok summary)) f = printed_whole (answered_lines cut (input_lines input)) text f.0 f.1
 told_so workers cut input (prints text (Err run_faults.Read)) f = printed_whole (answered_lines cut (input_lines input)) text f.0 f.1
 told_so workers cut input (prints text (Err (run_faults.Line number e))) f = refused_told input text number f.0 f.1 f.2 f.3 (printed_whole f.0 text f.4.0 f.4.1)
@@ -416,4 +416,4 @@ thread_is_told workers cut input = told_so workers cut input (run_outcome worker
 pub run_is_told : RunIsTold
 run_is_told workers cut input o h =
     let other = workers_are_one_thread workers cut input o h in
-    (other.0, other.1, subst (IsTold cut other.0) (sym other.2) (thread_is_told workers cut other.0))
+    (other.0, other.1, subst (IsRunTold cut other.0) (sym other.2) (thread_is_told workers cut other.0))

@@ -86,19 +86,19 @@ PrintsAddedUp lines text = IsAddedUp lines (blocks_of lines) None text
 
 -- An outcome is what a host prints so: for the lines of the input, where the run came to their end, or to where reading fails; or for
 -- those before the one that is refused.
-abbrev pub IsTold : Bool → List ℕ → RunOutcome → Type 0
-IsTold cut input (prints text (Ok summary)) = PrintsAddedUp (answered_lines cut (input_lines input)) text
-IsTold cut input (prints text (Err run_faults.Read)) = PrintsAddedUp (answered_lines cut (input_lines input)) text
-IsTold cut input (prints text (Err (run_faults.Line number fault))) = PrintsAddedUp (take (number - 1) (input_lines input)) text
-IsTold cut input (prints text (Err run_faults.Write)) = Unit {0}
-IsTold cut input (prints text (Err run_faults.Memory)) = Unit {0}
-IsTold cut input (prints text (Err run_faults.Start)) = Unit {0}
-IsTold cut input (prints text (Err run_faults.Endless)) = Unit {0}
+abbrev pub IsRunTold : Bool → List ℕ → RunOutcome → Type 0
+IsRunTold cut input (prints text (Ok summary)) = PrintsAddedUp (answered_lines cut (input_lines input)) text
+IsRunTold cut input (prints text (Err run_faults.Read)) = PrintsAddedUp (answered_lines cut (input_lines input)) text
+IsRunTold cut input (prints text (Err (run_faults.Line number fault))) = PrintsAddedUp (take (number - 1) (input_lines input)) text
+IsRunTold cut input (prints text (Err run_faults.Write)) = Unit {0}
+IsRunTold cut input (prints text (Err run_faults.Memory)) = Unit {0}
+IsRunTold cut input (prints text (Err run_faults.Start)) = Unit {0}
+IsRunTold cut input (prints text (Err run_faults.Endless)) = Unit {0}
 
 -- What one thread prints for a script is so.
 abbrev pub ThreadIsTold : Type 0
-ThreadIsTold = (workers : Option ℕ) (cut : Bool) (input : List ℕ) → IsTold cut input (run_outcome workers cut input)
+ThreadIsTold = (workers : Option ℕ) (cut : Bool) (input : List ℕ) → IsRunTold cut input (run_outcome workers cut input)
 
 -- What any number of workers print is so for a script with the arrivals of each batch in some order.
 abbrev pub RunIsTold : Type 0
-RunIsTold = (workers : Option ℕ) (cut : Bool) (input : List ℕ) (o : RunOutcome) → IsOutcome workers cut input o → (other : List ℕ) × IsReordered cut input other × IsTold cut other o
+RunIsTold = (workers : Option ℕ) (cut : Bool) (input : List ℕ) (o : RunOutcome) → IsOutcome workers cut input o → (other : List ℕ) × IsReordered cut input other × IsRunTold cut other o
