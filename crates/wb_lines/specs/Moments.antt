@@ -59,7 +59,7 @@ held seen line = []
 abbrev pub unread : {S : Type 0} → LinesValue S → List ℕ
 unread v = held v.seen v.line ++ v.reader.bytes
 
--- Whether these bytes may still come, and reading fail behind them if `cut`. Nothing comes after the end or a failure.
+-- These bytes may still come; if `cut`, reading fails behind them. Nothing comes after the end or a failure.
 abbrev pub MayComeTo : {S : Type 0} → Seen S → Bool → List ℕ → Bool → Type 0
 MayComeTo seens.Failed ended more cut = (more ≡ []) × (cut ≡ true)
 MayComeTo seen ended more cut = MayFollow ended more cut
@@ -67,7 +67,7 @@ MayComeTo seen ended more cut = MayFollow ended more cut
 abbrev pub MayCome : {S : Type 0} → LinesValue S → List ℕ → Bool → Type 0
 MayCome v more cut = MayComeTo v.seen v.reader.ended more cut
 
--- The items that follow if these bytes still come; the first is the group that is begun, if there is one. After a failed write or allocation there are none.
+-- If these bytes still come, these items follow. If a group is begun, it is the first of them. After a failed write or allocation none follow.
 abbrev pub RestBy : {S : Type 0} → Grouping → LinesValue S → Option Begun → List ℕ → Bool → Items → Seen S → Type 0
 RestBy by v g more cut is seens.End = is ≡ closed_group g (over (finished v.done))
 RestBy by v g more cut is seens.Failed = is ≡ closed_group g (over unreadable)

@@ -51,8 +51,8 @@ pub record IsReorderedBy {X : Type 0} (form : InputLine → X) (cut : Bool) (lin
   pub others : others_of cut 0 reordered ≡ others_of cut 0 lines
   pub batches : AreRearranged (batches_of form cut 0 lines) (batches_of form cut 0 reordered)
 
--- The contents of arrivals change places, and line feeds stay where they are. If each line has its line feed, whole lines change places, with
--- their carriage returns.
+-- The contents of arrivals change places, and line feeds stay. If each line ends with a line feed, whole lines change places: their carriage
+-- returns go with them.
 pub record IsReordered (cut : Bool) (input other : List ℕ) : Type 0 where
   pub contents : IsReorderedBy content cut (input_lines input) (input_lines other)
   pub ends : map (λ line. line.ended) (input_lines other) ≡ map (λ line. line.ended) (input_lines input)
