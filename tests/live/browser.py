@@ -176,7 +176,7 @@ class Page:
         return self.browser.call(method, self.session, **words)
 
     def close(self) -> None:
-        """Closes the window, and waits until it is gone: what its scripts do still is no fault of whatever is tested next."""
+        """Closes the window, and waits until it is gone: what its scripts do does not fail the next test."""
         self.browser.call("Target.closeTarget", targetId=self.target)
         end = time.monotonic() + PATIENCE
         while any(told["targetId"] == self.target for told in self.browser.call("Target.getTargets")["targetInfos"]):
