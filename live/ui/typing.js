@@ -162,7 +162,7 @@ export class Typing {
    * @param {import('./types.js').Drawing[]} old */
   groupOf([first]) {
     const { kept } = this.board.ink, item = first && kept.itemOf(first.source, first.seq);
-    return item?.drawings[0] === first ? kept.groupOf(item) : [];
+    return item && item.drawings[0] === first ? kept.groupOf(item) : [];
   }
 
   /** Says at once which letters cells don't have. They stay until Enter shows what would be drawn in their place. */

@@ -138,7 +138,23 @@ def test_letters(tally: Tally, anna: Sheet, tom: Sheet) -> None:
     tally.check("lines from right to left end at the right, and others at the left", abs(right[0] - right[1]) < 6 and abs(left[1] - left[2]) < 6 and left[0] > left[1] + 100, f"{left} {right}")
 
 
+def test_edge(tally: Tally, anna: Sheet, tom: Sheet) -> None:
+    """The page ends at its edge, which is seen, and what is drawn beyond stays on it."""
+    for scheme in ("dark", "light"):
+        anna.wish(scheme)
+        anna.page.value("wb.view.fit(); wb.view.home(); 0")
+        anna.page.until("!wb.painter.isPlanned")
+        found, wanted = anna.page.value("""(() => {
+            const { view, painter: { brush, colours } } = wb, spelled = (x) => `#${[...brush.getImageData(x, 400, 1, 1).data.slice(0, 3)].map((part) => part.toString(16).padStart(2, '0')).join('')}`;
+            return [[3, view.pixelX(0) - 1, view.pixelX(0) + 7].map(spelled), [colours.desk, colours.edge, colours.paper]];
+        })()""")
+        tally.check(f"beyond its edge there is no paper ({scheme})", found == wanted and len(set(found)) == 3, f"{found} {wanted}")
+    before = int(tom.page.value("wb.ink.items.length"))
+    stroke(anna, (4, 560), (40, 560), (90, 560))
+    tally.check("a stroke from beyond begins at the edge", tom.page.wait(f"wb.ink.items.length === {before + 1} && wb.ink.items.at(-1).points[0].x < 10"), str(tom.page.value("wb.ink.items.at(-1).points[0]")))
+
+
 def test_forms(tally: Tally, browser: Browser, room: Path, ports: int) -> None:
     with class_of(browser, room, ports, [("Anna", 0.0), ("Tom", LOSSY)]) as (anna, tom):
-        for test in (test_shapes, test_held, test_parts, test_letters):
+        for test in (test_shapes, test_held, test_parts, test_letters, test_edge):
             test(tally, anna, tom)
