@@ -1,7 +1,7 @@
 #!/usr/bin/env python3
 """Writes the script of a live session of 60,000 lines, its datagrams in words: session.py [SEED]
 
-    python3 tests/figures/session.py | ./wb hex >session.txt
+    python3 figures/session.py | ./wb hex >session.txt
     time ./wb run <session.txt >/dev/null
 
 Forty sources draw on four pages. A tenth of the drawops is lost, and most of these come later. Between the arrivals stand

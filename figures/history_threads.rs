@@ -1,5 +1,5 @@
 //! Times of claims by several threads at one list behind a lock, in plain Rust: what `wb_history` is compared with.
-//! `tests/figures/history_threads.py` runs it:
+//! `figures/history_threads.py` runs it:
 //!
 //!     PROGRAM CASE THREADS ROUNDS LOCK
 //!

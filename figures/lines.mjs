@@ -2,8 +2,8 @@
 // lines, of which the first opens a board and each other draws. What they send comes to another member, by lines and by bytes.
 import { readFileSync } from 'node:fs';
 import { join } from 'node:path';
-import { isWide } from '../../javascript/host.js';
-import { load } from '../../javascript/node.js';
+import { isWide } from '../javascript/host.js';
+import { load } from '../javascript/node.js';
 
 const [folder, turns] = process.argv.slice(2), lines = readFileSync(0, 'latin1').split('\n').slice(0, -1), name = isWide() ? 'wb.wasm' : 'wb-any.wasm';
 const program = await load(join(folder, name), isWide()), [board, ...said] = lines;
