@@ -114,7 +114,7 @@ NOT_DATAGRAMS = [
     (changed(TWO_MARKS, 34, "00000000"), 8, "a mark of 0"),
 ]
 
-# lines that are no datagrams in words, and which word is wrong
+# lines without a datagram in words, and which word is wrong
 NOT_WORDS = [(line, fault) for fault, lines in {
     "word 1: unknown": ["", "board 1 16 1 42", " request 8 7 7/4 2", "Request 8 7 7/4 2"],
     "word 2: missing": ["request"],

@@ -80,7 +80,7 @@ def test_no_room(opened: Open, tmp_path: Path) -> None:
 
 
 def test_not_its_own(opened: Open, start: Start, tmp_path: Path) -> None:
-    """Another member's record, and what is no record, which stays as it is."""
+    """Another member's record, and another file, which stays as it is."""
     opened().end()
     assert refused(lambda: wb.RecordedHost(8, str(tmp_path / "record"), by=start())) == "it is no record of member 8"
     (tmp_path / "record").write_text("Dear reader")

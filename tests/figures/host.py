@@ -1,7 +1,7 @@
 #!/usr/bin/env python3
 """Times `wb host` as a driver meets it, beside an echo: host.py TOP
 
-Forty sources draw 60,000 drawops on four pages in turn, as figures/wb.py writes them. Their lines go
+Forty sources draw 60,000 drawops on four pages in turn, as tests/figures/wb.py writes them. Their lines go
 
     round      one at a time: each is written, and its block read, before the next. The echo is `cat`
     stream     at once, from a file into a file, beside `cat`, and beside `wb check` of the same drawops
