@@ -1,4 +1,4 @@
-"""A storm: honest members draw among forgeries, floods, slow clients and losses. `python3 -m tests.live.test_storms` is one of a minute."""
+"""A storm: honest members draw among forgeries, floods, slow clients and losses. `python3 -m tests.live.attacks.test_storms` is one of a minute."""
 from __future__ import annotations
 
 import argparse
@@ -11,10 +11,10 @@ import time
 from pathlib import Path
 from typing import Any, Dict, List, Optional, Set, Tuple
 
-from ..facts import Facts
+from ...facts import Facts
 from .test_hostile import asking, deleting, drawn, framed, session, state
-from .members import LONGEST, SLOW_FROM, Process, answers, is_refused, milliseconds_a_line, program
-from .test_sessions import PAGES, operation
+from ..members import LONGEST, SLOW_FROM, Process, answers, is_refused, milliseconds_a_line, program
+from ..test_sessions import PAGES, operation
 
 FIRST_PORT = 26_640
 SECONDS, LONG_SECONDS = 20.0, 60.0

@@ -1,5 +1,5 @@
 """All attacks at once on a few honest members who draw, while a third of what comes to each is lost: all stay whole and equal, and nobody
-waits for a drawing. `python3 -m tests.live.test_attacked` is a minute of it with each of 2, 3 and 8 members."""
+waits for a drawing. `python3 -m tests.live.attacks.test_attacked` is a minute of it with each of 2, 3 and 8 members."""
 from __future__ import annotations
 
 import argparse
@@ -15,11 +15,11 @@ import time
 from pathlib import Path
 from typing import Dict, List, Optional
 
-from ..facts import Facts
+from ...facts import Facts
 from .test_hostile import drawn, framed, session, state
-from .members import LONGEST, Process, is_refused, program
-from .test_mutants import echoing, mutant, requesting
-from .test_sessions import PAGES, operation
+from ..members import LONGEST, Process, is_refused, program
+from ..test_mutants import echoing, mutant, requesting
+from ..test_sessions import PAGES, operation
 from .test_storms import Storm, wait_until_equal
 
 FIRST_PORT = 27_360

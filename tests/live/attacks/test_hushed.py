@@ -1,7 +1,7 @@
 """What one member can't do to the others, though it has answered them: make them an amplifier by requests, keep a drawing from being repaired by
 copies of it, and put a request off by its own. Nor can a stranger. In virtual time.
 
-    python3 -m tests.live.test_hushed RUNS [MEMBERS ..]     how long that takes in so many runs, with this number of honest members"""
+    python3 -m tests.live.attacks.test_hushed RUNS [MEMBERS ..]     how long that takes in so many runs, with this number of honest members"""
 from __future__ import annotations
 
 import statistics
@@ -16,11 +16,11 @@ import pytest
 
 from live.carriers.carrier import Origin
 from live.clock import SECOND
-from ..facts import Facts
-from ..judging.reference import REPAIRS_OF_ONE, REPAIR_PAUSE
-from .members import program
+from ...facts import Facts
+from ...judging.reference import REPAIRS_OF_ONE, REPAIR_PAUSE
+from ..members import program
 from .test_hostile import drawn, framed
-from .test_virtual import CELLS, PAGE, WALL, Virtual, World
+from ..test_virtual import CELLS, PAGE, WALL, Virtual, World
 
 # After each request the attacker sends copies of what it asks for to all that hold it, one in each pause, for longer than an answer takes.
 COPIES_FOR, COPIES_PAUSE = SECOND // 10, SECOND // 200

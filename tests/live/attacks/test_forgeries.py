@@ -4,9 +4,9 @@ from __future__ import annotations
 import time
 from typing import Any, Callable, Dict, List
 
-from ..facts import Facts
+from ...facts import Facts
 from .test_hostile import Attacker, asking, deleting, drawn, session, state
-from .members import Process, comes
+from ..members import Process, comes
 
 FIRST_PORT = 26_320
 PAGE = "1/1"

@@ -11,8 +11,8 @@ import pytest
 from live.carriers.carrier import Origin
 from live.carriers.mqtt import MOST_NAME, Broker, BrokerSession, MqttCarrier
 from live.sockets import acceptance
-from ..facts import Facts
-from .test_carriers import Kept
+from ...facts import Facts
+from ..test_carriers import Kept
 
 SESSION = "class-7"
 

@@ -8,8 +8,8 @@ import time
 from functools import partial
 from typing import Any, Dict, List, Optional, Tuple
 
-from ..facts import Facts
-from .members import SLOW_FROM, Process, milliseconds_a_line
+from ...facts import Facts
+from ..members import SLOW_FROM, Process, milliseconds_a_line
 
 FIRST_PORT = 26_080
 PAGE = "1/1"
