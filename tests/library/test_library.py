@@ -10,10 +10,10 @@ from pathlib import Path
 
 import pytest
 
-from ..host.conversations import documented, parted
 from ..host.program import program
 from ..host.sessions import Session
 from ..host.test_kept import KeptSession
+from ..transcripts import parted, read
 from .calls import CALLS, Host
 from .conftest import TOP, linked, run
 
@@ -107,7 +107,7 @@ def by_library(host_in_c: Path, given: bytes) -> bytes:
 
 def conversations() -> list[bytes]:
     """Those of the documents, and those that the tests of the host make up."""
-    found = [parted(it)[0].encode() for page in ("HOST.md", "HOST-LINES.md", "KEEPING.md") for it in documented((TOP / "docs" / page).read_text())]
+    found = [parted(it.text)[0].encode() for page in ("HOST.md", "HOST-LINES.md", "KEEPING.md") for it in read(TOP / "docs" / page)]
     for seed in range(CONVERSATIONS):
         numbers = random.Random(seed)
         found += [session.conversation(80)[0].encode() for session in (Session(numbers), KeptSession(numbers))]
