@@ -1,5 +1,5 @@
 #!/bin/bash
-# Runs words where nothing is but what they are given: a root with these files and folders alone, a network that has the loopback interface
+# Runs words in a root with nothing but what they are given: a root with these files and folders alone, a network that has the loopback interface
 # alone, and an environment of a home.
 #
 #     bare.sh ROOT HOME PATH .. -- WORDS    # ROOT is an empty folder; links among the paths stay links

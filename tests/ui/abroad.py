@@ -44,7 +44,7 @@ def type_at(sheet: Sheet, point: Point, text: str) -> None:
 
 
 def are_one(tally: Tally, name: str, items: int, strokes: int, *sheets: Sheet) -> None:
-    """Both windows come to show so many strokes and letters, and one picture."""
+    """Both windows come to show as many strokes and letters, and one picture."""
     for sheet in sheets:
         came = sheet.page.wait(f"{HERE} && {STROKES} === {strokes} && wb.ink.items.filter(({{ kind }}) => kind !== 's').length === {items}")
         tally.check(f"{name}: all is there", came, str(sheet.page.value(f"[{STROKES}, {ITEMS}, wb.session.link, wb.member_queue().length]")))
