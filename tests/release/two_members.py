@@ -1,4 +1,6 @@
 """two_members.py EXAMPLE: two members of examples/member.py at 127.0.0.1, by the Python that runs this. Ends well once both show what each has drawn."""
+from __future__ import annotations
+
 import subprocess
 import sys
 import threading
@@ -7,18 +9,19 @@ import time
 PORTS, LONGEST = ("8017", "8018"), 120.0
 
 
-def member(number):
+def member(number: int) -> subprocess.Popen[str]:
     words = [sys.executable, "-B", sys.argv[1], str(number + 1), PORTS[number], "-", PORTS[1 - number]]
     return subprocess.Popen(words, stdin=subprocess.PIPE, stdout=subprocess.PIPE, text=True)
 
 
-def read(process, shown):
-    for line in process.stdout:
+def read(process: subprocess.Popen[str], shown: list[str]) -> None:
+    for line in process.stdout or ():
         shown.append(line.strip())
 
 
-def main():
-    members, shown = [member(0), member(1)], [[], []]
+def main() -> int | str:
+    shown: list[list[str]] = [[], []]
+    members = [member(0), member(1)]
     for process, rows in zip(members, shown):
         threading.Thread(target=read, args=(process, rows), daemon=True).start()
     for number, process in enumerate(members):
