@@ -19,7 +19,7 @@ UNKNOWN_DELAY, DELAY_LIMIT, HOLD_DOWNS = 100_000, 1 << 24, 3
 C1, C2, D1, D2 = 2, 2, 1, 1
 MOST_LEVEL, OLD_LEVEL = 16, 4
 MOST_TIMERS, MOST_MARKS, MOST_ECHOES, MOST_PAGES = 64, 64, 32, 64
-FIRST_FORGED = 1 << 31
+FIRST_FORGED, MOST_ABOVE = 1 << 31, 65_537
 
 Report = Union[SessionMessage, PageState]
 
@@ -67,7 +67,7 @@ class Member:
         self.sent: dict[int, int] = {}  # the moments that its own named, and when it sent them
         self.has_twin = False
         self.members: dict[Hashable, int] = {}  # the origins that are members', and when something came from there
-        self.homes: dict[int, tuple[Hashable, int]] = {}  # where a number has echoed us, and when something came under it
+        self.homes: dict[int, tuple[Hashable, int]] = {}  # where a number has echoed us, and when it last reported from there
         self.report_at, self.reported = self.chance(SECOND), (Page(-1, 0), 0)  # the last mark that it sent
         self.ask_at: Optional[int] = self.chance(SECOND // 5)
         self.ask_wait = SECOND
@@ -84,6 +84,9 @@ class Member:
 
     def marks(self, page: Page) -> tuple[Mark, ...]:
         return tuple(Mark(*it) for it in painting.marks(self.held.get(page, {}).values(), page).items())
+
+    def own_top(self, page: Page) -> int:
+        return max((mark.high for mark in self.marks(page) if mark.source == self.number), default=0)
 
     def rows(self, page: Page, width: int, height: int) -> list[str]:
         return painting.canvas(self.held.get(page, {}).values(), page, width, height)
@@ -121,8 +124,6 @@ class Member:
         if self.trusts(now, origin):
             self.members[origin] = now
         number = it.source if isinstance(it, Drawop) else it.asker if isinstance(it, (Request, AskPages)) else it.sender
-        if number in self.homes and self.homes[number][0] == origin:
-            self.homes[number] = origin, now
         if isinstance(it, Drawop):
             self.take(now, it, self.trusts(now, origin))
         elif number == self.number:
@@ -136,7 +137,7 @@ class Member:
         self.ask_for(now)
 
     def take(self, now: int, it: Drawop, is_trusted: bool) -> None:
-        is_forged = it.source == self.number and it.seq >= FIRST_FORGED
+        is_forged = it.source == self.number and it.seq >= min(FIRST_FORGED, self.own_top(it.page) + MOST_ABOVE)
         if not is_trusted or is_forged or it.time > self.wall + now + DAY:
             return
         name = Name(it.source, it.page, it.seq)
@@ -197,10 +198,12 @@ class Member:
 
     def is_believed(self, now: int, it: Report, origin: Hashable) -> bool:
         """Learns who is a member. A number that has echoed us stays where it is."""
-        if self.is_echoed(now, it):
-            self.members[origin], self.homes[it.sender] = now, (origin, now)
-        home, last = self.homes.get(it.sender, (origin, now))
-        return home == origin or now - last > HEARD
+        is_echoed, (home, last) = self.is_echoed(now, it), self.homes.get(it.sender, (None, now))
+        if is_echoed:
+            self.members[origin] = now
+        if is_echoed or home == origin:
+            self.homes[it.sender] = origin, now
+        return is_echoed or home in (None, origin) or now - last > HEARD
 
     def trusts(self, now: int, origin: Hashable) -> bool:
         return origin is None or now - self.members.get(origin, now - GONE - 1) <= GONE
@@ -242,11 +245,11 @@ class Member:
     def tick(self, now: int) -> list[bytes]:
         """What is due."""
         sent: list[codec.Datagram] = []
-        for name, timer in list(self.requests.items()):
+        for name, timer in sorted(self.requests.items()):
             if timer.due <= now:
                 self.set_request(now, name, timer.level + 1, timer.delay)
                 sent.append(Request(self.number, *name))
-        for name, repair in list(self.repairs.items()):
+        for name, repair in sorted(self.repairs.items()):
             if repair.due <= now:
                 del self.repairs[name]
                 self.held_down[name] = now + HOLD_DOWNS * repair.delay
@@ -276,7 +279,8 @@ class Member:
             left = list(self.marks(page))
         if left:
             self.reported = page, left[:MOST_MARKS][-1].source
-        late = sorted(self.heard.items(), key=lambda it: -it[1][1])[:MOST_ECHOES]
-        echoes = sorted(Echo(other, sent, now - came) for other, (sent, came) in late if other != self.number or now - came <= FRESH)
+        twin = [(other, it) for other, it in self.heard.items() if other == self.number and now - it[1] <= FRESH]
+        late = sorted((it for it in self.heard.items() if it[0] != self.number), key=lambda it: -it[1][1])[:MOST_ECHOES]
+        echoes = sorted(Echo(other, sent, now - came) for other, (sent, came) in late + twin)
         self.sent[self.clock + now] = now
         return SessionMessage(self.number, self.clock + now, page, tuple(left[:MOST_MARKS]), tuple(echoes))

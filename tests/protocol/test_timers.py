@@ -203,3 +203,11 @@ def test_strangers() -> None:
     member.come(7, drawop, "here")
     member.come(8, codec.write(codec.SessionMessage(7, 9, PAGE, (codec.Mark(7, 5),), ())), "elsewhere")
     assert (member.count(), member.lacking()) == (1, [])
+
+
+def test_many_echoes() -> None:
+    """Of the 32 that were heard last, and of a twin besides."""
+    member = silent(1)
+    for number in range(1, 42):
+        member.come(number, codec.write(codec.SessionMessage(number, 9, PAGE, (), ())))
+    assert [it.source for it in member.report(99).echoes] == [1, *range(10, 42)]
