@@ -44,7 +44,7 @@ def type_at(sheet: Sheet, point: Point, text: str) -> None:
 
 
 def are_one(tally: Tally, name: str, items: int, strokes: int, *sheets: Sheet) -> None:
-    """Both windows come to show so many strokes and letters, and one picture."""
+    """Both windows come to show these numbers of strokes and letters, and one picture."""
     for sheet in sheets:
         came = sheet.page.wait(f"{HERE} && {STROKES} === {strokes} && wb.ink.items.filter(({{ kind }}) => kind !== 's').length === {items}")
         tally.check(f"{name}: all is there", came, str(sheet.page.value(f"[{STROKES}, {ITEMS}, wb.session.link, wb.member_queue().length]")))
@@ -53,7 +53,7 @@ def are_one(tally: Tally, name: str, items: int, strokes: int, *sheets: Sheet) -
 
 
 def test_together(tally: Tally, served: Class, anna: Sheet, salma: Sheet) -> int:
-    """Both write and type, the tablet with a word by hand; how many strokes there are."""
+    """Both write and type, the tablet with a word by hand. Gives the number of strokes."""
     take(anna, "pen")
     word = written("light", 60, 190, 60, STEP)
     for way in word:
