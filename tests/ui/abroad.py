@@ -7,7 +7,7 @@ import time
 from pathlib import Path
 
 from ..live.browser import Browser
-from .inks import ITEMS, PICTURE, at, draw, lift
+from .inks import ITEMS, are_equal, at, draw, lift
 from .layouts import FACE, FAULTS, TARGET
 from .people import introduce
 from .restart import HERE, STROKES, Class
@@ -48,8 +48,7 @@ def are_one(tally: Tally, name: str, items: int, strokes: int, *sheets: Sheet) -
     for sheet in sheets:
         came = sheet.page.wait(f"{HERE} && {STROKES} === {strokes} && wb.ink.items.filter(({{ kind }}) => kind !== 's').length === {items}")
         tally.check(f"{name}: all is there", came, str(sheet.page.value(f"[{STROKES}, {ITEMS}, wb.session.link, wb.member_queue().length]")))
-    one, other = sheets
-    tally.check(f"{name}: one picture", one.page.value(PICTURE) == other.page.value(PICTURE))
+    tally.check(f"{name}: one picture", are_equal(*sheets))
 
 
 def test_together(tally: Tally, served: Class, anna: Sheet, salma: Sheet) -> int:
