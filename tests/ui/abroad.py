@@ -82,10 +82,19 @@ def test_killed(tally: Tally, served: Class, anna: Sheet, salma: Sheet, strokes:
     are_one(tally, "after the restart", 2, strokes + 2, anna, salma)
 
 
+# whether the sheet shows dots of its ground
+DOTS = """(() => {
+    const { painter: { brush, canvas, colours } } = wb, wanted = [1, 3, 5].map((at) => parseInt(colours.dot.slice(at, at + 2), 16)).join(), { data } = brush.getImageData(0, 0, canvas.width, canvas.height);
+    for (let i = 0; i < data.length; i += 4) if (`${data[i]},${data[i + 1]},${data[i + 2]}` === wanted) return true;
+    return false;
+})()"""
+
+
 def test_shown(tally: Tally, anna: Sheet, salma: Sheet) -> None:
     """Everything is in sight, and the layout is as it should be."""
     for sheet, (language, _, _, _, name) in zip((anna, salma), WINDOWS):
         sheet.press("#fit")
+        tally.check(f"the ground is there in another size ({name})", sheet.page.wait(f"!wb.painter.isPlanned && !wb.ink.before && {DOTS}"))
         faults = sheet.page.value(f"{FAULTS}([{TARGET}, {FACE}])")
         tally.check(f"the layout of the {name}", not faults, str(faults))
         tally.check(f"its direction ({name})", sheet.page.value("document.documentElement.dir") == ("rtl" if language == "ar" else "ltr"))
