@@ -122,8 +122,10 @@ export class InkLayer {
     this.takeSome(end);
     const isSettled = this.settle(), other = isSettled ? this.before : this.wide;
     if (other && other !== view.wide) this.stretch(other);
-    if (isSettled && this.paintInView(end)) this.before = 0;
-    else if (isSettled) painter.soon();
+    const isDone = isSettled && this.paintInView(end);
+    // pictures of another size were covered by paper, and so was the ground: one frame more has it
+    if (isSettled && (!isDone || this.before)) painter.soon();
+    if (isDone) this.before = 0;
   }
 
   /** Whether pictures are of the size in view: they are once it stays so for a moment. */

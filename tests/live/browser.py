@@ -22,6 +22,9 @@ NAMES = ("chromium", "chromium-browser", "google-chrome")
 # for how many seconds a test waits for what has to come, on a slow machine too
 PATIENCE = 120.0
 
+# what a browser tells of a connection that it opened, and did not use in time: it asks again on another
+ASKS_AGAIN = "net::ERR_SOCKET_NOT_CONNECTED"
+
 # the bits of the protocol for keys that are held
 ALT, CONTROL, SHIFT = 1, 2, 8
 
@@ -108,7 +111,7 @@ class Browser:
         if method == "Runtime.exceptionThrown":
             details = told["exceptionDetails"]
             self.faults.append(details.get("exception", {}).get("description") or details["text"])
-        elif method == "Log.entryAdded" and told["entry"]["level"] == "error":
+        elif method == "Log.entryAdded" and told["entry"]["level"] == "error" and ASKS_AGAIN not in told["entry"]["text"]:
             self.faults.append(f"{told['entry']['text']} {told['entry'].get('url', '')}")
 
     def next_message(self, end: float, method: str) -> dict[str, Any]:

@@ -7,7 +7,7 @@ import time
 from pathlib import Path
 
 from ..live.browser import Browser
-from .inks import ITEMS, PICTURE, at, draw, lift
+from .inks import ITEMS, are_equal, at, draw, lift
 from .layouts import FACE, FAULTS, TARGET
 from .people import introduce
 from .restart import HERE, STROKES, Class
@@ -44,16 +44,15 @@ def type_at(sheet: Sheet, point: Point, text: str) -> None:
 
 
 def are_one(tally: Tally, name: str, items: int, strokes: int, *sheets: Sheet) -> None:
-    """Both windows come to show as many strokes and letters, and one picture."""
+    """Both windows come to show these numbers of strokes and letters, and one picture."""
     for sheet in sheets:
         came = sheet.page.wait(f"{HERE} && {STROKES} === {strokes} && wb.ink.items.filter(({{ kind }}) => kind !== 's').length === {items}")
         tally.check(f"{name}: all is there", came, str(sheet.page.value(f"[{STROKES}, {ITEMS}, wb.session.link, wb.member_queue().length]")))
-    one, other = sheets
-    tally.check(f"{name}: one picture", one.page.value(PICTURE) == other.page.value(PICTURE))
+    tally.check(f"{name}: one picture", are_equal(*sheets))
 
 
 def test_together(tally: Tally, served: Class, anna: Sheet, salma: Sheet) -> int:
-    """Both write and type, the tablet with a word by hand; how many strokes there are."""
+    """Both write and type, the tablet with a word by hand. Gives the number of strokes."""
     take(anna, "pen")
     word = written("light", 60, 190, 60, STEP)
     for way in word:
@@ -83,10 +82,19 @@ def test_killed(tally: Tally, served: Class, anna: Sheet, salma: Sheet, strokes:
     are_one(tally, "after the restart", 2, strokes + 2, anna, salma)
 
 
+# whether the sheet shows dots of its ground
+DOTS = """(() => {
+    const { painter: { brush, canvas, colours } } = wb, wanted = [1, 3, 5].map((at) => parseInt(colours.dot.slice(at, at + 2), 16)).join(), { data } = brush.getImageData(0, 0, canvas.width, canvas.height);
+    for (let i = 0; i < data.length; i += 4) if (`${data[i]},${data[i + 1]},${data[i + 2]}` === wanted) return true;
+    return false;
+})()"""
+
+
 def test_shown(tally: Tally, anna: Sheet, salma: Sheet) -> None:
     """Everything is in sight, and the layout is as it should be."""
     for sheet, (language, _, _, _, name) in zip((anna, salma), WINDOWS):
         sheet.press("#fit")
+        tally.check(f"the ground is there in another size ({name})", sheet.page.wait(f"!wb.painter.isPlanned && !wb.ink.before && {DOTS}"))
         faults = sheet.page.value(f"{FAULTS}([{TARGET}, {FACE}])")
         tally.check(f"the layout of the {name}", not faults, str(faults))
         tally.check(f"its direction ({name})", sheet.page.value("document.documentElement.dir") == ("rtl" if language == "ar" else "ltr"))

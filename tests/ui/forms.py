@@ -133,9 +133,9 @@ def test_letters(tally: Tally, anna: Sheet, tom: Sheet) -> None:
     anna.page.until("document.activeElement === wb.typing.box")
     anna.page.call("Input.insertText", text=f"{ARABIC}\n{ARABIC} {ARABIC}\nabc")
     anna.page.key("Enter")
-    tom.page.until("wb.ink.items.length === 3 && !wb.ink.waiting.length")
+    tom.page.until("wb.ink.items.length === 3 && wb.ink.items[2].letters.endsWith('abc')")
     left, right = tom.page.value(f"{EXTENTS}(wb.ink.items[2])")
-    tally.check("lines from right to left end at the right, and others at the left", abs(right[0] - right[1]) < 6 and abs(left[1] - left[2]) < 6 and left[0] > left[1] + 100, f"{left} {right}")
+    tally.check("lines from right to left end at the right, and others at the left", abs(right[0] - right[1]) < 6 and abs(left[1] - left[2]) < 30 and left[0] > left[1] + 100, f"{left} {right}")
 
 
 def test_edge(tally: Tally, anna: Sheet, tom: Sheet) -> None:

@@ -8,7 +8,7 @@ from ..live.browser import CONTROL, SHIFT, Browser, all_came
 from .classroom import LOSSY, class_of
 from .sheets import Sheet, Tally
 
-# how many times Tab is pressed at most
+# how often Tab is pressed at most
 TABS = 120
 
 AT = "document.activeElement"

@@ -7,7 +7,7 @@ from pathlib import Path
 
 from ..live.browser import CONTROL, Browser
 
-from .inks import PICTURE, at, draw
+from .inks import are_equal, at, draw
 from .sheets import BY_CELLS, Member, Sheet, Tally
 
 # a window that was not opened anew, whose program answers and which has nothing left to send
@@ -58,8 +58,7 @@ def are_whole(tally: Tally, name: str, strokes: int, *sheets: Sheet) -> None:
     for sheet in sheets:
         came = sheet.page.wait(f"{HERE} && {STROKES} === {strokes}")
         tally.check(f"{name}: every stroke once", came, str(sheet.page.value(f"[{STROKES}, wb.session.link, wb.member_queue().length, {STATE}]")))
-    one, other = sheets
-    tally.check(f"{name}: one picture", one.page.value(PICTURE) == other.page.value(PICTURE))
+    tally.check(f"{name}: one picture", are_equal(*sheets))
 
 
 def test_pen_down(tally: Tally, served: Class, anna: Sheet, tom: Sheet) -> None:
