@@ -24,7 +24,7 @@ RUN = {
     "./wb-live --broker mqtts://broker.example.org/class-7 --password-file me.txt --key class.key": "live/recipes.py: follow",
     "./wb-live 'wb:#session=class-7&broker=mqtts%3A%2F%2Fbroker.example.org&key=..' --password-file me.txt": "live/recipes.py: follow",
     "./wb-live --web 127.0.0.1:8040 --origin https://board.example.org": "live/test_serving.py: test_recipe",
-    "cd /usr/local && sudo rm -r bin/wb bin/wb-live share/wb share/doc/wb share/man/man1/wb.1 share/man/man1/wb-live.1": "launcher/test_install.py: test_uninstall",
+    "cd /usr/local && sudo rm -r bin/wb bin/wb-live lib/wb share/wb share/doc/wb share/man/man1/wb.1 share/man/man1/wb-live.1": "launcher/test_install.py: test_uninstall",
     "sudo rm share/bash-completion/completions/wb share/bash-completion/completions/wb-live": "launcher/test_install.py: test_uninstall",
 }
 

@@ -12,12 +12,10 @@ from pathlib import Path
 
 import pytest
 
+from web.building import version
+
 from ..host.program import program
 from .conftest import TOP, linked, run
-
-sys.path.insert(0, str(TOP / "web"))
-
-from building import version  # noqa: E402
 
 SAID = re.compile(r"wb (\S+)\nsources ([0-9a-f]{64}|-)\n(?:proved by .+|not proved)\n")
 

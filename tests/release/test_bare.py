@@ -1,4 +1,4 @@
-"""What a release has, where nothing else is: no network, an empty home, and of the machine what each step names."""
+"""What a release has, used in a root that has nothing else: no network, an empty home, and of the machine what each step names."""
 
 from __future__ import annotations
 
