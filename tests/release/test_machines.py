@@ -38,7 +38,7 @@ def test_pip_takes_the_wheel_where_it_runs(platform: str, wheel: Path, tmp_path:
     pip = [sys.executable, "-m", "pip", "--isolated"]
     if subprocess.run([*pip, "--version"], capture_output=True, check=False).returncode:
         pytest.skip("there is no pip here (apt-get install python3-pip)")
-    words = ["install", "--no-index", "--no-deps", "--only-binary=:all:", "--platform", platform, "--target", tmp_path / "made", wheel]
+    words: list[str | Path] = ["install", "--no-index", "--no-deps", "--only-binary=:all:", "--platform", platform, "--target", tmp_path / "made", wheel]
     ran = subprocess.run([*pip, *words], stdin=subprocess.DEVNULL, stdout=subprocess.PIPE, stderr=subprocess.STDOUT, text=True, check=False)
     assert (tmp_path / "made/wb/libwb.so").exists() == PLATFORMS[platform] == (ran.returncode == 0), ran.stdout
     said = "is not a supported wheel on this platform"

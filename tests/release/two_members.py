@@ -1,24 +1,29 @@
 """two_members.py EXAMPLE: two members of examples/member.py at 127.0.0.1, by the Python that runs this. Ends well once both show what each has drawn."""
+from __future__ import annotations
+
 import subprocess
 import sys
 import threading
 import time
+from typing import List
 
 PORTS, LONGEST = ("8017", "8018"), 120.0
 
 
-def member(number):
+def member(number: int) -> subprocess.Popen[str]:
     words = [sys.executable, "-B", sys.argv[1], str(number + 1), PORTS[number], "-", PORTS[1 - number]]
     return subprocess.Popen(words, stdin=subprocess.PIPE, stdout=subprocess.PIPE, text=True)
 
 
-def read(process, shown):
-    for line in process.stdout:
+def read(process: subprocess.Popen[str], shown: List[str]) -> None:
+    for line in process.stdout or []:
         shown.append(line.strip())
 
 
-def main():
-    members, shown = [member(0), member(1)], [[], []]
+def main() -> str:
+    """What is wrong, or nothing."""
+    members = [member(0), member(1)]
+    shown: List[List[str]] = [[], []]
     for process, rows in zip(members, shown):
         threading.Thread(target=read, args=(process, rows), daemon=True).start()
     for number, process in enumerate(members):
@@ -30,7 +35,7 @@ def main():
         time.sleep(0.1)
     for process in members:
         process.kill()
-    return 0
+    return ""
 
 
-sys.exit(main())
+sys.exit(main() or 0)
