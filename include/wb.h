@@ -29,7 +29,8 @@
  * - The thread rules above.
  *
  * The shared library is libwb.so.0, and wb_version says which one. Until 1.0.0 a version may change anything, and CHANGELOG.md says what. A later
- * one may have more statuses and kinds of events. A status that is not below: the call changed nothing. An event whose kind is not below: fetch it and go on.
+ * one may have more statuses and kinds of events. A status that is not below: the call changed nothing. An event whose kind is not below: fetch
+ * it and go on.
  */
 #ifndef WB_H
 #define WB_H

@@ -13,7 +13,7 @@ from typing import NamedTuple
 
 HERE = Path(__file__).resolve().parent
 TOP = HERE.parents[1]
-PATIENCE = 60.0  # seconds until what does not come has failed
+PATIENCE = 240.0  # seconds until what does not come has failed
 
 # A start obeys these signals, though who started the tests ignores them, as a shell does for what it starts in the background.
 OBEYING = ["env", "--default-signal=INT,HUP"]

@@ -1,6 +1,6 @@
 #!/bin/bash
-# Runs words in a root with nothing but what they are given: a root with these files and folders alone, a network that has the loopback interface
-# alone, and an environment of a home.
+# Runs words in a root that has these files and folders alone, in a network that has the loopback interface alone, and with an environment that
+# has a home alone.
 #
 #     bare.sh ROOT HOME PATH .. -- WORDS    # ROOT is an empty folder; links among the paths stay links
 set -eu

@@ -1,4 +1,4 @@
-"""What a release has, if there is nothing else: no network, an empty home, and of the machine what each step names."""
+"""What a release has, used in a root that has nothing else: no network, an empty home, and of the machine what each step names."""
 
 from __future__ import annotations
 
@@ -13,7 +13,8 @@ from typing import NamedTuple
 import pytest
 
 from ..host.program import program
-from ..launcher.checkout import TOP, Checkout
+from ..launcher.checkout import TOP
+from .conftest import make
 from .test_release import HOSTED, NAME, release
 
 HERE = Path(__file__).resolve().parent
@@ -46,13 +47,23 @@ class Room(NamedTuple):
         return ran.stdout
 
 
-@pytest.fixture
-def room(checkout: Checkout, tmp_path_factory: pytest.TempPathFactory) -> Room:
-    made = Room(tmp_path_factory.mktemp("home"), tmp_path_factory.mktemp("root"))
+@pytest.fixture(scope="module")
+def packed(tmp_path_factory: pytest.TempPathFactory) -> Path:
+    """The archive of a release, which has the program of tests, and the library if there is one."""
+    checkout = make(tmp_path_factory.mktemp("bare") / "one")
     named = os.environ.get("WB_LIBRARY")
     library = Path(named).resolve().parents[1] if named else TOP / "out/library"
     more = {"LIBRARY": str(library)} if (library / "lib/libwb.so.0").exists() else {}
-    with tarfile.open(release(checkout, STATIC=program(), **more) / f"{NAME}.tar.gz") as archive:
+    try:
+        return release(checkout, STATIC=program(), **more) / f"{NAME}.tar.gz"
+    finally:
+        checkout.end()
+
+
+@pytest.fixture
+def room(packed: Path, tmp_path_factory: pytest.TempPathFactory) -> Room:
+    made = Room(tmp_path_factory.mktemp("home"), tmp_path_factory.mktemp("root"))
+    with tarfile.open(packed) as archive:
         archive.extractall(made.home)
     return made
 

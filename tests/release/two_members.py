@@ -5,6 +5,7 @@ import subprocess
 import sys
 import threading
 import time
+from typing import List
 
 PORTS, LONGEST = ("8017", "8018"), 120.0
 
@@ -14,14 +15,15 @@ def member(number: int) -> subprocess.Popen[str]:
     return subprocess.Popen(words, stdin=subprocess.PIPE, stdout=subprocess.PIPE, text=True)
 
 
-def read(process: subprocess.Popen[str], shown: list[str]) -> None:
-    for line in process.stdout or ():
+def read(process: subprocess.Popen[str], shown: List[str]) -> None:
+    for line in process.stdout or []:
         shown.append(line.strip())
 
 
-def main() -> int | str:
-    shown: list[list[str]] = [[], []]
+def main() -> str:
+    """What is wrong, or nothing."""
     members = [member(0), member(1)]
+    shown: List[List[str]] = [[], []]
     for process, rows in zip(members, shown):
         threading.Thread(target=read, args=(process, rows), daemon=True).start()
     for number, process in enumerate(members):
@@ -33,7 +35,7 @@ def main() -> int | str:
         time.sleep(0.1)
     for process in members:
         process.kill()
-    return 0
+    return ""
 
 
-sys.exit(main())
+sys.exit(main() or 0)

@@ -150,6 +150,7 @@ def libc_of(built: Built) -> str:
     named = [(int(first), int(second)) for path in files for first, second in re.findall(rb"GLIBC_(\d+)\.(\d+)", path.read_bytes())]
     return "libc6 (>= %d.%d)" % max(named) if named else "libc6"
 
+
 CHANGED = """\
 %s (%s) unstable; urgency=medium
 
