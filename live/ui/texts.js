@@ -625,6 +625,7 @@ export const TEXTS = {
   "toldOnBroker": ["the broker {host}, session {name}", "der Broker {host}, Sitzung {name}", "الوسيط {host}، الجلسة {name}"],
   "toldInTabs": ["the tabs of this browser, session {name}", "die Tabs dieses Browsers, Sitzung {name}", "ألسنة هذا المتصفح، الجلسة {name}"],
   "toldSealed": ["{where}, sealed by a key", "{where}, versiegelt mit einem Schlüssel", "{where}، مختومة بمفتاح"],
+  "toldTagged": ["{where}, tagged by a key", "{where}, mit einem Schlüssel gekennzeichnet", "{where}، موسومة بمفتاح"],
   "toldSealedHere": ["{where}, sealed by the key of the invitation", "{where}, versiegelt mit dem Schlüssel der Einladung", "{where}، مختومة بمفتاح الدعوة"],
 
   "toldBusy": ["busy", "gerade beschäftigt", "مشغول"],

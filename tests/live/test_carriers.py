@@ -31,7 +31,7 @@ from live.invitation import InvitationFault, read_broker, read_invitation, write
 from live.keys import KeyFault, key_bytes, new_key, read_key, write_key
 from live.options import read_options
 from live.packages import advice
-from live.state import session_name
+from live.state import lock, session_name
 from ..facts import Facts
 from .members import PATIENCE, TOP
 from .test_networks import free_ports
@@ -248,7 +248,9 @@ def test_senders(facts: Facts) -> None:
 
 def test_invitations(facts: Facts) -> None:
     def line(words: str) -> str:
-        return write_invitation(read_options(words.split()))
+        options = read_options(words.split())
+        lock(options)
+        return write_invitation(options)
 
     with tempfile.TemporaryDirectory() as folder:
         path = str(Path(folder) / "a.key")
@@ -266,9 +268,9 @@ def test_invitations(facts: Facts) -> None:
               "https://page.example/board/#session=class-7&broker=wss%3A%2F%2Fbroker.example%2Fmqtt&key=" + key)
         facts("other sessions have other records", len({session_name(read_options(words.split())) for words in (
             "", "--session b", "--key " + path, "--broker mqtts://h/s", "--broker mqtts://h/t", "--broker mqtts://h:1/s", "--lan", "--ports 25000", "--web h:1", "--web h:2")}), 10)
-    facts("of a group", read_options([line("--lan 239.1.2.3:5000 --session b")]).lan, ("239.1.2.3", 5000))
-    facts("of ports", read_options([line("--ports 25000")]).ports, 25_000)
-    facts("of peers there is none", fault_of(lambda: line("--listen 127.0.0.1:1 --peer 127.0.0.1:2")).startswith("peers are named one by one"), True)
+    group, ports = read_options([line("--lan 239.1.2.3:5000 --session b --open")]), read_options([line("--ports 25000 --open")])
+    facts("of an open group, and of ports", (group.lan, group.is_open, ports.ports, ports.is_open), (("239.1.2.3", 5000), True, 25_000, True))
+    facts("of peers there is none", fault_of(lambda: line("--listen 127.0.0.1:1 --peer 127.0.0.1:2 --open")).startswith("peers are named one by one"), True)
     facts("nor of a class of its own", fault_of(lambda: line("--web h:1")).startswith("others join a class by the address of its page"), True)
     browser = read_options(["https://page.example/#session=x&broker=wss%3A%2F%2Fanna%3Ase%2540cret%40h%2Fmqtt&lose=0.3"])
     facts("a browser's line may have a login", (browser.broker, browser.login, browser.lose), (Broker("wss", "h", 443, "/mqtt"), Login("anna", "se@cret"), 0.0))
@@ -284,7 +286,7 @@ def test_code(facts: Facts) -> None:
     if not shutil.which("qrencode"):
         pytest.skip("there is no qrencode: apt-get install qrencode")
     terminal, inner = pty.openpty()
-    command = [sys.executable, str(TOP / "wb-live"), "--invite", "--ports", "25000"]
+    command = [sys.executable, str(TOP / "wb-live"), "--invite", "--ports", "25000", "--open"]
     ran = subprocess.Popen(command, stdin=inner, stdout=inner, stderr=subprocess.PIPE)
     os.close(inner)
     told = b""
@@ -294,9 +296,9 @@ def test_code(facts: Facts) -> None:
     except OSError:  # the other end is closed
         pass
     lines = told.decode("utf-8").replace("\r", "").split("\n")
-    facts("an invitation in a terminal", (ran.wait(PATIENCE), lines[0]), (0, "wb:#session=board&ports=25000"))
+    facts("an invitation in a terminal", (ran.wait(PATIENCE), lines[0]), (0, "wb:#session=board&ports=25000&open=yes"))
     facts("has a picture below", len(lines) > 15 and all(set(line) <= set(" \u2580\u2584\u2588") for line in lines[1:]), True)
-    facts("and a word on what has no key", b"no key" in (ran.stderr.read() if ran.stderr else b""), True)
+    facts("and a word on what is open", b"is open" in (ran.stderr.read() if ran.stderr else b""), True)
     if ran.stderr:
         ran.stderr.close()
     os.close(terminal)
