@@ -3,6 +3,7 @@
 import { Member } from 'wb/node.js';
 
 const address = `mqtt://127.0.0.1:${process.argv[2]}`;
+const KEY = `tag.${'A'.repeat(43)}`;
 let passed = 0, failed = 0;
 
 function judge(name, found, wanted) {
@@ -18,16 +19,16 @@ async function until(holds) {
   return holds();
 }
 
-const members = await Promise.all([1, 2].map((number) => Member.openAtBroker(number, address, 'board', { listen: 0 }))), drawn = [];
+const members = await Promise.all([1, 2].map((number) => Member.openAtBroker(number, address, 'board', { listen: 0, key: KEY }))), drawn = [];
 members[1].on('draw', ({ source, page, operation }) => drawn.push([source, page, operation]));
 await members[0].draw('1/1', { kind: 'text', x: 0, y: 0, text: 'by a "broker"' });
 judge('what is drawn comes by the broker, with its name and its page', [await until(() => drawn.length === 1), drawn], [true, [[1, '1/1', 'text 0 0 "by a \\"broker\\""']]]);
 console.log('gone');
-await until(() => members.every(({ transport }) => !transport.isCarrying));
+await until(() => members.every(({ carrier }) => !carrier.isCarrying));
 await members[0].draw('1/1', 'line 0 1 4 1 *');
 judge('what was drawn without a broker comes once it is there again', await until(() => drawn.length === 2), true);
 for (const member of members) member.end();
-judge('a broker that is none is told', await Member.openAtBroker(3, 'mqtt://127.0.0.1:1', 'board', { listen: 0 }).catch(({ code }) => code), 'ECONNREFUSED');
-judge('so is an address that is none', await Member.openAtBroker(3, 'http://127.0.0.1:1', 'board', { listen: 0 }).catch((fault) => fault.constructor.name), 'RangeError');
+judge('a broker that is none is told', await Member.openAtBroker(3, 'mqtt://127.0.0.1:1', 'board', { listen: 0, open: true }).catch(({ code }) => code), 'ECONNREFUSED');
+judge('so is an address that is none', await Member.openAtBroker(3, 'http://127.0.0.1:1', 'board', { listen: 0, open: true }).catch((fault) => fault.constructor.name), 'RangeError');
 console.log(`${passed} passed, ${failed} failed`);
 process.exit(failed ? 1 : 0);

@@ -3,7 +3,7 @@ import { appendFileSync, mkdtempSync, readFileSync, rmSync, writeFileSync } from
 import { tmpdir } from 'node:os';
 import { join } from 'node:path';
 import { Host, HostEnded, Refused, drawingIn } from '../wb.js';
-import { Member, RecordedHost, load } from '../node.js';
+import { Key, Member, RecordedHost, load } from '../node.js';
 
 let passed = 0, failed = 0;
 
@@ -37,6 +37,33 @@ async function refused(call) {
 }
 
 const program = await load(process.argv[2]);
+
+/** The vectors of docs/vectors: what opens, once, and what is dropped. And two members under a key, beside one that has another. */
+async function testKeys() {
+  const bytes = (digits) => Uint8Array.from(Buffer.from(digits, 'hex'));
+  for (const kind of ['sealed', 'tagged']) {
+    const vectors = JSON.parse(readFileSync(new URL(`../../docs/vectors/${kind}.json`, import.meta.url), 'utf8')), key = new Key(vectors.key, vectors.session);
+    for (const it of vectors.datagrams) {
+      const opened = [1, 2].map(() => key.open(bytes(it[kind])));
+      judge(`${kind}: ${it.what}`, opened, [{ datagram: bytes(it.datagram), sender: BigInt(`0x${vectors.sender}`) }, null]);
+    }
+    for (const it of vectors.dropped) judge(`${kind}: ${it.why}`, new Key(vectors.key, vectors.session).open(bytes(it[kind])), null);
+    const keys = [vectors.key, vectors.key, `${vectors.key.slice(0, -2)}BA`], bind = { address: '127.0.0.1', port: 0 };
+    const members = await Promise.all(keys.map((text, at) => Member.open(at + 1, { program, listen: 0, bind, key: text })));
+    for (const member of members) member.carrier.to = members.filter((other) => other !== member).map((other) => other.address());
+    for (const [at, member] of members.entries()) await member.draw('1/1', `line 0 ${at} 4 ${at} *`);
+    const [one, two, other] = members, views = () => members.map(({ host }) => host.view('1/1').length);
+    for (const end = Date.now() + 20_000; views()[0] + views()[1] < 4 && Date.now() < end;) await new Promise((done) => setTimeout(done, 20));
+    judge(`${kind}: members of one key show one page, and another is not heard`, [views(), told(one.host.view('1/1')) === told(two.host.view('1/1'))], [[2, 2, 1], true]);
+    for (const member of [one, two, other]) member.end();
+  }
+  const group = { address: '239.192.17.1', port: 8_017 };
+  for (const words of [{ group }, {}, { to: [{ address: '192.0.2.1', port: 9 }] }, { group, key: 'A'.repeat(43), open: true }]) {
+    judge('neither a key nor open, or both', await raised(() => Member.open(1, { program, ...words })), 'RangeError');
+  }
+}
+
+await testKeys();
 
 /** What a host that is not judged answers. */
 const brief = ({ send, due, became, refused }) => ({ send, due, became, refused });

@@ -415,27 +415,32 @@ const hex = (bytes) => Buffer.from(bytes).toString('hex'), unhex = (digits) => n
 const { key, session, closed, line } = JSON.parse(process.argv[1]);
 const seal = await Seal.of(key, session), opened = await seal.open(unhex(closed)), made = newKey();
 const read = readInvitation(new URL(line).hash), written = 'https://page.example/' + writeInvitation(read);
-console.log(JSON.stringify({ opened: opened && hex(opened), closed: hex(await seal.close(unhex('00ff5742'))), made, read, written }));
+console.log(JSON.stringify({ opened: opened && hex(opened.plain), closed: hex(await seal.close(unhex('00ff5742'))), made, read, written }));
 """
 
 
 @needs_seals
 @pytest.mark.skipif(not NODE, reason="there is no node (apt-get install nodejs)")
 def test_browsers(facts: Facts) -> None:
-    """A browser seals, opens and invites as we do."""
+    """A browser seals, tags, opens and invites as we do."""
+    for key in (KEY, "tag." + KEY):
+        check_browser(facts, key)
+
+
+def check_browser(facts: Facts, key: str) -> None:
     import json
 
     from live.carriers.sealed import Seal
 
-    seal, key = Seal(KEY, "class-7"), KEY
+    seal = Seal(key, "class-7")
     line = "https://page.example/#session=class-7&broker=wss%3A%2F%2Fbroker.example%2Fmqtt&key=" + key
-    asked = json.dumps({"key": key, "session": "class-7", "closed": seal.close(b"\x00\xffWB").hex(), "line": line})
+    asked = json.dumps({"key": key, "session": "class-7", "closed": seal.close(b"\x03\xffWB").hex(), "line": line})
     program = AGREEMENT % {"web": TOP / "web" / "member"}
     ran = subprocess.run([str(NODE), "--input-type=module", "-e", program, asked], stdout=subprocess.PIPE, stderr=subprocess.PIPE, text=True, timeout=60, check=False)
     told = json.loads(ran.stdout) if ran.returncode == 0 else {"fault": ran.stderr}
-    facts("a browser opens what we seal", told.get("opened"), b"\x00\xffWB".hex())
+    facts("a browser opens what we seal", told.get("opened"), b"\x03\xffWB".hex())
     facts("and we what it seals", seal.open(bytes.fromhex(told.get("closed", ""))), b"\x00\xffWB")
     facts("its keys are ours", len(key_bytes(told.get("made", ""))), 32)
-    facts("it reads our invitation", told.get("read"), {"session": "class-7", "broker": "wss://broker.example/mqtt", "key": key, "more": {}})
+    facts("it reads our invitation", told.get("read"), {"session": "class-7", "broker": "wss://broker.example/mqtt", "key": key, "isOpen": False, "more": {}})
     facts("and we its own", read_invitation(told.get("written", "#")), {"session": "class-7", "broker": "wss://broker.example/mqtt", "key": key})
     facts("which is the same line", told.get("written"), line)

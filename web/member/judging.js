@@ -153,10 +153,11 @@ export class Judging {
 
   // ---- who is there
 
-  /** The members that were heard lately.
+  /** The members that were heard lately. Under a key only those that have answered us: of others what was said before may be played once more.
    * @returns {[number, import('./heard.js').Other][]} */
   present() {
-    return this.heard.within(this.patience, this.member.board.now());
+    const present = this.heard.within(this.patience, this.member.board.now());
+    return this.member.isClosed ? present.filter(([, { answered }]) => answered !== null) : present;
   }
 
   /** The constants of the timers go by how many are heard. */
