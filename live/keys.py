@@ -79,8 +79,8 @@ def write_key(path: str, tags: bool = False) -> None:
 
 
 def own_key(path: str) -> str:
-    """The text of the key in a file, which is made, with a new key that tags, where it is not there. Of several that make it at a time, one does:
-    nobody sees a part of it."""
+    """The text of the key in a file, which is made, with a new key that tags, where it is not there. If several make it at a time, one does, and nobody
+    sees a part of it."""
     if not os.path.lexists(path):
         made = "%s.%s" % (path, secrets.token_hex(8))
         write_key(made, tags=True)

@@ -230,7 +230,7 @@ def check_browser(facts: Facts) -> None:
 
 def check_packages(facts: Facts, room: BrokerFiles) -> None:
     """A start without the package ends with one line that names the one command."""
-    for name, words, package in (("paho", ["--broker", "mqtts://127.0.0.1/x"], "python3-paho-mqtt"), ("cryptography", ["--key", str(room.path / "a.key")], "python3-cryptography")):
+    for name, words, package in (("paho", ["--broker", "mqtts://127.0.0.1/x", "--open"], "python3-paho-mqtt"), ("cryptography", ["--key", str(room.path / "a.key")], "python3-cryptography")):
         empty = room.path / ("without " + name)
         (empty / name).mkdir(parents=True)
         (empty / name / "__init__.py").write_text("raise ImportError\n")

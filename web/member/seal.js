@@ -12,7 +12,7 @@ const TAGS = 'tag.';
 /** Kinds of envelopes, by how they are closed. */
 const SEALED = 2, TAGGED = 3;
 
-/** @param {string} text base64url, maybe behind `tag.` @returns {Uint8Array} */
+/** @param {string} text base64url, with `tag.` before it if it tags @returns {Uint8Array} */
 export function keyBytes(text) {
   const letters = text.startsWith(TAGS) ? text.slice(TAGS.length) : text;
   const bytes = Uint8Array.from(atob(letters.replaceAll('-', '+').replaceAll('_', '/')), (letter) => letter.charCodeAt(0));
