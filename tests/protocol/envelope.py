@@ -77,18 +77,18 @@ class Seal:
         self.sent += 1
         return self.close((TAGGED if self.tags else SEALED) + self.sender + self.sent.to_bytes(8, "big") + datagram, b"", nonce)
 
-    def unwrap(self, closed: bytes) -> Optional[bytes]:
-        """What another sender closed, if it comes for the first time."""
+    def unwrap(self, closed: bytes) -> tuple[bytes, bytes]:
+        """Another sender and what it closed, if it comes for the first time. Else nothing."""
         how, opened = self.open_by(closed) or (b"", b"")
         if len(opened) < HEAD or opened[:1] != how:
-            return None
+            return b"", b""
         sender, counter = opened[1:9], int.from_bytes(opened[9:HEAD], "big")
         came = self.came.setdefault(sender, [])
         if sender == self.sender or counter in came or came and counter < max(came) - REMEMBERED:
-            return None
+            return b"", b""
         came.append(counter)
         del came[:-4 * REMEMBERED]
-        return opened[HEAD:]
+        return sender, opened[HEAD:]
 
 
 def asks(seal: Seal, given: bytes, ours: bytes, nonce: bytes = b"") -> bytes:

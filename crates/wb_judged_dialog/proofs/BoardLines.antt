@@ -15,7 +15,7 @@ use Rattle.wb_commands.specs.declared.command.Command.TheVariants as lines
 use Rattle.wb_commands.specs.declared.fault.LineFault.{LineFault}
 use Rattle.wb_commands.specs.declared.fault.LineFault.TheVariants as faults
 use Rattle.wb_commands.specs.Parsing as script
-use Rattle.wb_commands.specs.Parsing.{line_of as script_line_of, datagram, number, or_fault, ◌>>=◌}
+use Rattle.wb_commands.specs.Parsing.{script_line_of, datagram, number, or_fault, ◌>>=◌}
 use Rattle.wb_dialog.specs.declared.line.DriverLine.{DriverLine}
 use Rattle.wb_dialog.specs.declared.line.DriverLine.TheVariants.{Script, Say, Keep, Came, Add, Version}
 use Rattle.wb_dialog.specs.declared.fault.Refusal.{Refusal}

@@ -23,7 +23,7 @@ use Rattle.wb_board.specs.Counts.{MAX_CELLS}
 use Rattle.wb_board.specs.declared.board.TheConstants.{MAX_WORKERS}
 use Rattle.wb_recovery.specs.declared.fault.TheConstants.{MAX_DELAY}
 use Rattle.wb_recovery.specs.declared.tuning.TheConstants.{MAX_CONSTANT}
-use Rattle.wb_commands.specs.Parsing.{line_of as script_line_of, four_of, number, or_fault, two_of, ◌>>=◌}
+use Rattle.wb_commands.specs.Parsing.{script_line_of, four_of, number, or_fault, two_of, ◌>>=◌}
 use Rattle.wb_judging.specs.declared.record.RecordLine.{RecordLine}
 use Rattle.wb_dialog.specs.declared.line.DriverLine.{DriverLine}
 use Rattle.wb_dialog.specs.declared.line.DriverLine.TheVariants.{Script, Say, Came, Add, Version}
@@ -81,11 +81,11 @@ board_none arguments =
     tick_step (or_fault faults.Words (four_of arguments)) _ (λ w. tick_step (number 0 (2 ^ 32 - 1) w.0) _ (λ member.
     tick_step (number 1 MAX_CELLS w.1) _ (λ cells. tick_step (number 1 MAX_WORKERS w.2) _ (λ workers. tick_step (number 0 (2 ^ 64 - 1) w.3) _ (λ seed. tt)))))
 
-arrived_none : (v : Datagram) → IsNoTick (script.arrived v)
+arrived_none : (v : Datagram) → IsNoTick (script.arrived_line v)
 arrived_none (Draw d) = tt
 arrived_none v = tt
 
-heard_none : (v : Datagram) → IsNoTick (script.heard v)
+heard_none : (v : Datagram) → IsNoTick (script.heard_line v)
 heard_none (Draw d) = tt
 heard_none v = tt
 
@@ -93,8 +93,8 @@ handed_none : (v : Datagram) → IsNoTick (Ok (script.handed_in v))
 handed_none (Draw d) = tt
 handed_none v = tt
 
-distance_none : (arguments : List (List ℕ)) → IsNoTick (script.distance arguments)
-unfolding script.distance
+distance_none : (arguments : List (List ℕ)) → IsNoTick (script.distance_set arguments)
+unfolding script.distance_set
 distance_none arguments = tick_step (or_fault faults.Words (two_of arguments)) _ (λ w. tick_step (number 0 (2 ^ 32 - 1) w.0) _ (λ source. tick_step (number 0 MAX_DELAY w.1) _ (λ micros. tt)))
 
 tuning_none : (arguments : List (List ℕ)) → IsNoTick (script.tuning arguments)
@@ -103,15 +103,15 @@ tuning_none arguments =
     tick_step (or_fault faults.Words (four_of arguments)) _ (λ w. tick_step (number 1 MAX_CONSTANT w.0) _ (λ c1.
     tick_step (number 1 MAX_CONSTANT w.1) _ (λ c2. tick_step (number 1 MAX_CONSTANT w.2) _ (λ d1. tick_step (number 1 MAX_CONSTANT w.3) _ (λ d2. tt)))))
 
-page_none : (word : List ℕ) (arguments : List (List ℕ)) → IsNoTick (script.page_line word arguments)
-unfolding script.page_line
+page_none : (word : List ℕ) (arguments : List (List ℕ)) → IsNoTick (script.line_of_page word arguments)
+unfolding script.line_of_page
 page_none word arguments =
     either IsNoTick (bytes_eq word (codes "look")) _ _ (tick_step (script.page arguments) _ (λ p. tt))
     (either IsNoTick (bytes_eq word (codes "session")) _ _ (tick_step (script.page arguments) _ (λ p. tt))
-    (tick_step (script.question word arguments) _ (λ query. tt)))
+    (tick_step (script.script_question word arguments) _ (λ query. tt)))
 
-command_none : (word : List ℕ) (arguments : List (List ℕ)) → bytes_eq word (codes "tick") ≡ false → IsNoTick (script.command word arguments)
-unfolding script.command
+command_none : (word : List ℕ) (arguments : List (List ℕ)) → bytes_eq word (codes "tick") ≡ false → IsNoTick (script.script_command word arguments)
+unfolding script.script_command
 command_none word arguments other =
     either IsNoTick (bytes_eq word (codes "board")) _ _ (board_none arguments)
     (either IsNoTick (bytes_eq word (codes "arrive")) _ _ (tick_step (script.datagram arguments) _ arrived_none)
@@ -121,7 +121,7 @@ command_none word arguments other =
     (either IsNoTick (bytes_eq word (codes "tuning")) _ _ (tuning_none arguments)
     (second IsNoTick (bytes_eq word (codes "tick")) _ _ other (page_none word arguments)))))))
 
-words_none : (r : Result Datagram WrongWord) → IsNoTick (script.in_words r)
+words_none : (r : Result Datagram WrongWord) → IsNoTick (script.script_in_words r)
 words_none (Ok v) = handed_none v
 words_none (Err wrong) = tt
 
@@ -132,7 +132,7 @@ Begins (word ∷ arguments) = bytes_eq word (codes "tick") ≡ false
 
 script_none : (line : List ℕ) → Begins (words line) → IsNoTick (script_line_of line)
 script_none line other = either IsNoTick (begins_datagram line) _ _ (words_none (reading_words line)) (by (words line) other) where
-  by : (ws : List (List ℕ)) → Begins ws → IsNoTick (script.line_of_words ws)
+  by : (ws : List (List ℕ)) → Begins ws → IsNoTick (script.script_line_of_words ws)
   by [] o = tt
   by (word ∷ arguments) o = either IsNoTick (script.begins_comment word) _ _ tt (command_none word arguments o)
 

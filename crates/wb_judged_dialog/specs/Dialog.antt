@@ -19,7 +19,7 @@ use Rattle.wb_commands.specs.declared.command.Command.{Command}
 use Rattle.wb_commands.specs.declared.command.Command.TheVariants as lines
 use Rattle.wb_commands.specs.declared.fault.LineFault.{LineFault}
 use Rattle.wb_commands.specs.declared.fault.LineFault.TheVariants as faults
-use Rattle.wb_commands.specs.Parsing.{line_of as script_line_of}
+use Rattle.wb_commands.specs.Parsing.{script_line_of}
 use Rattle.wb_dialog.specs.declared.fault.Refusal.TheVariants as refusals
 use Rattle.wb_dialog.specs.Lines.{line_of}
 use Rattle.wb_dialog.specs.Hosting.{Host as HostState, Hosting, Kept, Reply, prints, denies, keep_reply, reply as dialog_reply}
