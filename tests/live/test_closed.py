@@ -14,15 +14,15 @@ from typing import Any, Dict, Iterator, List
 
 import pytest
 
-from live.keys import KeyFault, key_for, new_key, own_key
+from live.keys import key_for, new_key, own_key
 from live.options import read_options
 from live.presence import Pointed, write
 from live.state import lock
 from ..facts import Facts
 from .members import TOP, Process
 from .test_carriers import HAS_SEALS, HOME, Kept, Wire, fault_of
-from .test_forgeries import now
-from .test_hostile import Attacker, asking, deleting, drawn, framed, session, state
+from .attacks.test_forgeries import now
+from .attacks.test_hostile import Attacker, asking, deleting, drawn, framed, session, state
 from .test_strangers import Ear, is_twin
 
 FIRST_PORT = 27_600
@@ -70,7 +70,7 @@ def test_key(facts: Facts, home: Dict[str, str], monkeypatch: pytest.MonkeyPatch
         made = list(pool.map(lambda _: own_key(str(folder / "key")), range(64)))
     facts("all have one key", len(set(made)), 1)
     facts("which its user alone can read, and nothing is beside it", (stat.S_IMODE((folder / "key").stat().st_mode), os.listdir(folder)), (0o600, ["key"]))
-    options = [read_options(words) for words in ([], ["--ports", "25000"], ["--session", "b"])]
+    options = [read_options(words.split()) for words in ("", "--ports 25000", "--session b")]
     for each in options:
         lock(each)
     facts("other ports have other keys of it", [each.lock == key_for(made[0], name) for each, name in zip(options, ("ports-24200", "ports-25000", "ports-24200"))], [True] * 3)
@@ -85,13 +85,9 @@ def test_words(facts: Facts, home: Dict[str, str]) -> None:
         ran = subprocess.run([sys.executable, str(TOP / "wb-live"), *words], env={**os.environ, **home}, stdin=subprocess.DEVNULL, capture_output=True, text=True, timeout=60, check=False)
         lines = ran.stderr.splitlines()
         facts("%s alone" % words[0], (ran.returncode, len(lines), all(word in ran.stderr for word in ("--key", "invitation", "--open"))), (1, 1, True))
-        for more, wanted in ((["--open"], None), ([], KeyFault)):
-            options = read_options([*words, *more])
-            try:
-                lock(options)
-                facts("%s with %s" % (words[0], more), (wanted, options.lock), (None, None))
-            except KeyFault:
-                facts("%s with %s" % (words[0], more), wanted, KeyFault)
+        options = read_options([*words, "--open"])
+        lock(options)
+        facts("%s is open" % words[0], options.lock, None)
     facts("nothing of it is kept", os.listdir(home["XDG_STATE_HOME"]), [])
 
 
