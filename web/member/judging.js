@@ -33,6 +33,7 @@ const GONE_AFTER = 60 * SECOND, GONE_AFTER_REPORTS = 3, LEAST_INTERVAL = 2 * SEC
 
 /** What stands on the member's side of its judging.
  * @typedef {object} Judged
+ * @property {boolean} isClosed   whether a key closes the session
  * @property {number} me
  * @property {boolean} isReady   whether it may draw
  * @property {import('./drawn.js').Drawn} drawn
