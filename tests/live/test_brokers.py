@@ -187,7 +187,7 @@ const seal = await Seal.of(key, session), heard = [];
 const enveloped = (tag, counter, data) => seal.close(Uint8Array.from([2, ...Buffer.from(tag, 'hex'), 0, 0, 0, 0, 0, 0, 0, counter, ...data]));
 let foreign = 0;
 const take = async (bytes) => {
-  const plain = await seal.open(bytes);
+  const plain = (await seal.open(bytes))?.plain;
   foreign += plain ? 0 : 1;
   if (!plain) return;
   heard.push(Buffer.from(plain.subarray(17)).toString('hex'));
