@@ -17,7 +17,7 @@ HOST = HERE.parent / "web" / "member" / "host.js"
 UI = HERE.parent / "live" / "ui"
 THIRD_PARTY = HERE.parent / "tools" / "installed" / "THIRD-PARTY"
 
-FILES = ("README.md", "broker.d.ts", "broker.js", "drawings.d.ts", "drawings.js", "host.d.ts", "ink.d.ts", "ink.js", "inks.d.ts", "node.d.ts", "node.js",
+FILES = ("README.md", "broker.d.ts", "broker.js", "drawings.d.ts", "drawings.js", "host.d.ts", "ink.d.ts", "ink.js", "inks.d.ts", "key.d.ts", "key.js", "node.d.ts", "node.js",
          "record.d.ts", "record.js", "udp.d.ts", "udp.js", "wb.d.ts", "wb.js")
 MODULES = ("wb-any.wasm", "wb.wasm")
 

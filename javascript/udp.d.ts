@@ -1,3 +1,6 @@
+/** Whether nobody beyond this machine can hear, or be heard.
+ * @param {Place} place */
+export function isHere({ group, bind, to }: Place): boolean;
 /** @typedef {{ address: string, port: number }} Address */
 /** Where a member hears and sends: a multicast group, as 239.192.17.1 and 8017; or an address of its own, and those of others.
  * @typedef {object} Place

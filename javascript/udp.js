@@ -57,3 +57,9 @@ export class Udp {
 function placeOf({ address, port }) {
   return address.split('.').reduce((all, part) => (all << 8n) + BigInt(part), 0n) * 65_536n + BigInt(port);
 }
+
+/** Whether nobody beyond this machine can hear, or be heard.
+ * @param {Place} place */
+export function isHere({ group, bind = { address: '0.0.0.0', port: 0 }, to = [] }) {
+  return !group && [bind, ...to].every(({ address }) => address === 'localhost' || address.startsWith('127.'));
+}

@@ -125,7 +125,7 @@ class Board:
         """The line that makes a host judge. Under a key nobody is a stranger for long, and what came before is replayed from outside."""
         self.wall, self.wall_at = wall(), self.moment
         here = number_of(self.options.login.name) if self.options.login else "-"
-        return "judge %d %d %d %d %s %s" % (self.moment, self.options.rate, self.ready_at - self.moment, self.wall, here, "0" if self.options.key else "-")
+        return "judge %d %d %d %d %s %s" % (self.moment, self.options.rate, self.ready_at - self.moment, self.wall, here, "0" if self.options.lock else "-")
 
     def parts(self, many: List[str], waiting: Optional[Waiting], half: int) -> Iterator[List[str]]:
         """Some at a time, and how far the first or the second half of a start is with them."""

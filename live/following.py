@@ -129,7 +129,7 @@ class Following:
 
     def start(self, name: str) -> Tuple[subprocess.Popen[str], str]:
         options = self.options
-        words = ["--session", name, *network_words(options, name), *seen_words(options)]
+        words = ["--session", name, *network_words(options, name), *seen_words(options), *(["--open"] if options.is_open else [])]
         secrets = [("--key", options.key or ""), ("--password-file", "%s:%s" % (options.login.name, options.login.password) if options.login else "")]
         given = [(word, secret(text)) for word, text in secrets if text]
         words += [part for word, number in given for part in (word, "/dev/fd/%d" % number)]

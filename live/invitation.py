@@ -86,8 +86,10 @@ def write_invitation(options: Options) -> str:
         raise InvitationFault("others join a class by the address of its page: an invitation takes a network, as --ports names one")
     else:
         words["ports"] = "%d" % options.ports
-    if options.key:
-        words["key"] = options.key
+    if options.lock:
+        words["key"] = options.lock
+    else:
+        words["open"] = "yes"
     return "%s#%s" % (options.page or START, urlencode(words))
 
 

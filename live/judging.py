@@ -179,8 +179,9 @@ class Judging:
     # ---- who is there
 
     def present(self) -> Dict[int, Other]:
-        """The members that were heard lately."""
-        return self.heard.within(self.patience)
+        """The members that were heard lately. Under a key only those that have answered us: of others what was said before may be played once more."""
+        present = self.heard.within(self.patience)
+        return {number: other for number, other in present.items() if other.answered is not None} if self.member.options.lock else present
 
     def count(self) -> None:
         """The constants of the timers go by how many are heard."""

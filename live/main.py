@@ -13,6 +13,7 @@ from .board import BoardFault
 from .carriers.carrier import NetworkFault, Nobody
 from .carriers.hub import Hub
 from .carriers.opening import open_network
+from .carriers.sealed import CIPHER
 from .carriers.worse import Worse
 from .events import Events
 from .guests import Guests
@@ -24,10 +25,11 @@ from .kept import Kept, path_beside
 from .keys import KeyFault, write_key
 from .member import Member
 from .options import Options, read_options
+from .packages import has_module
 from .proving import Proof, Stage, Teller, build_of, find_now
 from .record import NoRoom, Record, RecordFault, read_played
 from .replay import Playing
-from .state import open_record
+from .state import lock, open_record
 from .telling import notice_of
 from .terminal import Terminal
 from .web import Web, open_web
@@ -92,14 +94,21 @@ def join(options: Options, program: str, events: Events, held: ExitStack) -> Tup
     return member, guests
 
 
+def make_key(path: str, tags: bool) -> None:
+    """A key that seals, where that can be had."""
+    write_key(path, tags or not has_module(CIPHER))
+    if not tags and not has_module(CIPHER):
+        print("wb-live: this key tags: nobody else draws, but whoever is on the network can read. With python3-cryptography a new key seals", file=sys.stderr)
+
+
 def invite(options: Options) -> None:
     """Prints the line that brings others into the session, and for people that look on the same as a picture."""
     line = write_invitation(options)
     print(line)
     if sys.stdout.isatty():
         print(code_of(line), end="")
-    if not options.key:
-        print("wb-live: this session has no key: whoever is on its network can read and draw", file=sys.stderr)
+    if not options.lock:
+        print("wb-live: this session is open: whoever is on its network can read and draw", file=sys.stderr)
 
 
 def tell_pages(options: Options, web: Web) -> None:
@@ -111,7 +120,7 @@ def tell_pages(options: Options, web: Web) -> None:
         print(code_of(web.urls[-1]), end="", flush=True)
     if not web.is_of_this_machine:
         print(PLAIN, file=sys.stderr)
-    if options.open:
+    if options.browser:
         webbrowser.open(web.urls[-1])
 
 
@@ -163,11 +172,10 @@ def main(words: List[str]) -> int:
     options = read_options(words)
     try:
         if options.new_key:
-            write_key(options.new_key)
-        elif options.invite:
-            invite(options)
-        else:
-            hold(options)
+            make_key(options.new_key, options.tag)
+            return 0
+        lock(options)
+        (invite if options.invite else hold)(options)
     except FAULTS as fault:
         print("wb-live: %s" % (fault or "the host ended"), file=sys.stderr)
         return 1

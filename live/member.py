@@ -113,7 +113,8 @@ class Member:
     def hear_aside(self, data: bytes, origin: Origin) -> None:
         """A datagram that no host hears of, on the carrier's thread: where somebody points, or that he who spoke from there is gone."""
         if not data.startswith(GONE):
-            self.presence.hear(data)
+            if not self.options.lock or self.judging.is_known(origin):
+                self.presence.hear(data)
         elif data[len(GONE):] == origin.text.encode() and origin not in self.leaving and len(self.leaving) < MOST_WAITING:
             self.leaving.add(origin)
             self.inbox.call(partial(self.leave, origin))

@@ -42,7 +42,10 @@ class Options(argparse.Namespace):
     ca: Optional[str]
     session: str
     key: Optional[str]  # its text
+    is_open: bool  # anybody on the network may draw
+    lock: Optional[str] = None  # the text of the key that closes the session, which is given or the user's own
     new_key: Optional[str]
+    tag: bool
     invite: bool
     page: Optional[str]
     web: Optional[Tuple[str, int, bool]]  # an address, and whether the words name one; None: serves no page
@@ -50,7 +53,7 @@ class Options(argparse.Namespace):
     origin: List[str]
     new_address: bool
     terminal: bool
-    open: bool
+    browser: bool
     record: Optional[str]
     forget: bool
     replay: Optional[str]
@@ -126,7 +129,7 @@ def parser() -> argparse.ArgumentParser:
     made = argparse.ArgumentParser(
         prog="wb-live",
         description="Holds a session of wb: people draw together, in a browser or a terminal. With no words it is for "
-        "this machine alone. The host that keeps the board is proved; until its first proof is done, a build serves that is "
+        "you on this machine alone. The host that keeps the board is proved; until its first proof is done, a build serves that is "
         "only checked while it runs. The network, the clock and the page are tested, and not proved.",
         epilog="Records stand in $XDG_STATE_HOME/wb, or else in ~/.local/state/wb, in a folder for each session. All checkouts and "
         "installations of one user share them, so a start of any goes on with the same boards. XDG_STATE_HOME=FOLDER "
@@ -146,8 +149,10 @@ def parser() -> argparse.ArgumentParser:
     shut = made.add_argument_group("who may read").add_argument
     shut("invitation", nargs="?", type=read_invitation, metavar="INVITATION", help="a line that --invite printed: joins that session")
     shut("--session", type=session_in, default=FIRST_NAME, metavar="NAME", help="the name of the session, else %s" % FIRST_NAME)
-    shut("--key", type=read_key, metavar="FILE", help="seals each datagram by the key in this file")
+    shut("--key", type=read_key, metavar="FILE", help="the key in this file: nobody else reads or draws. On this machine it is one of your own, unless it is given")
+    shut("--open", dest="is_open", action="store_true", help="no key: anybody on the network reads and draws")
     shut("--new-key", metavar="FILE", help="makes a file with a new key, which only its owner can read, and ends")
+    shut("--tag", action="store_true", help="the new key tags, and does not seal: nobody else draws, but all can read. It takes no package, as it is where there is none")
     shut("--invite", action="store_true", help="prints a line for others to join this session, with its key, and ends")
     shut("--page", type=page_address, metavar="URL", help="the line of --invite begins with the address of this page, which wb --page built")
     seen = made.add_argument_group("where it is seen").add_argument
@@ -158,7 +163,7 @@ def parser() -> argparse.ArgumentParser:
     seen("--no-web", dest="web", action="store_const", const=None, help="serves no page, and paints it in the terminal")
     seen("--terminal", action="store_true", default=None, help="paints the page in the terminal")
     seen("--no-terminal", dest="terminal", action="store_false", help="paints nothing in the terminal")
-    seen("--open", action="store_true", help="opens the page in a browser")
+    seen("--browser", action="store_true", help="opens the page in a browser")
     kept = made.add_argument_group("what is kept").add_argument
     kept("--record", metavar="FILE", help="keeps the board in this file, and goes on from its lines; else in a file of the session's folder, see below")
     kept("--forget", action="store_true", help="forgets the record, and starts anew with another number")
@@ -183,6 +188,7 @@ def take_invitation(options: Options) -> None:
         raise InvitationFault("an invitation names the network: --broker, --lan and --listen go without one")
     options.session = words["session"]
     options.key = words.get("key") or options.key
+    options.is_open = options.is_open or "open" in words
     options.broker = words.get("broker")  # type: ignore[assignment]
     try:
         options.lan = address(words["lan"]) if "lan" in words else None
@@ -217,6 +223,8 @@ def read_options(words: List[str]) -> Options:
         made.error(str(fault))
     if options.broker and (options.lan or options.listen):
         made.error("--broker, --lan and --listen exclude each other")
+    if options.is_open and options.key:
+        made.error("--open and a key exclude each other")
     if (options.login or options.ca) and not options.broker:
         made.error("--password-file and --ca go with --broker")
     options.guests = (options.guests or GUESTS) if options.web and options.web[2] and not options.replay else 0

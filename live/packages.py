@@ -16,6 +16,14 @@ DEBIANS = "/usr/bin/python3"
 PATIENCE = 20
 
 
+def has_module(name: str) -> bool:
+    try:
+        importlib.import_module(name)
+    except ImportError:
+        return False
+    return True
+
+
 def module_of(name: str, package: str, words: str) -> ModuleType:
     """A module of a package that these words take. NetworkFault, with the one command that helps, where it is not here."""
     try:

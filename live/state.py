@@ -10,9 +10,12 @@ from pathlib import Path
 from typing import Iterator, Tuple
 
 from .invitation import FIRST_NAME
-from .keys import digest_of
+from .keys import KeyFault, digest_of, key_for, own_key
 from .options import Options
 from .record import Record, RecordFault
+
+# what to do where nobody said who may draw
+NO_KEY = "who may draw in this network? --key FILE or an invitation for those who have it (--new-key FILE makes a key), --open for anybody"
 
 
 def random_number() -> int:
@@ -38,16 +41,46 @@ def carrier_name(options: Options) -> str:
 
 def folder_of(options: Options) -> Path:
     """The folder of the session, which is made where it is not there."""
-    named = os.environ.get("XDG_STATE_HOME", "")
-    state = Path(named) if named.startswith("/") else Path.home() / ".local" / "state"
-    folder = state / "wb" / session_name(options).replace("/", "_")
+    folder = state_folder() / session_name(options).replace("/", "_")
     try:
-        state.mkdir(parents=True, exist_ok=True)
-        for each in (folder.parent, folder):
-            make_private(each)
+        make_all(folder)
     except OSError as fault:
         raise RecordFault("no record can be kept in %s (%s): --record FILE names another place" % (folder, fault.strerror)) from fault
     return folder
+
+
+def state_folder() -> Path:
+    """Where a user's records and key are."""
+    named = os.environ.get("XDG_STATE_HOME", "")
+    return (Path(named) if named.startswith("/") else Path.home() / ".local" / "state") / "wb"
+
+
+def make_all(folder: Path) -> None:
+    """Makes the state folder, and one in it."""
+    state = state_folder()
+    state.parent.mkdir(parents=True, exist_ok=True)
+    for each in dict.fromkeys((state, folder)):
+        make_private(each)
+
+
+def lock(options: Options) -> None:
+    """Closes the session to all who lack its key, unless it is opened: on a network that key is given, and on this machine its user has one. KeyFault
+    where there is none."""
+    if options.is_open or options.replay or options.is_alone:
+        return
+    if options.key is None and (options.lan or options.listen or options.broker):
+        raise KeyFault(NO_KEY)
+    options.lock = options.key or key_for(key_of_user(), carrier_name(options))
+
+
+def key_of_user() -> str:
+    """The key of this user's sessions on this machine, from the first start on."""
+    path = state_folder() / "key"
+    try:
+        make_all(path.parent)
+    except OSError as fault:
+        raise KeyFault("no key can be kept in %s (%s): --key FILE names one, and --open goes without" % (path.parent, fault.strerror)) from fault
+    return own_key(str(path))
 
 
 def make_private(folder: Path) -> None:

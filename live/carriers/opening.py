@@ -32,7 +32,7 @@ def open_network(options: Options, me: int) -> Tuple[Carrier, Optional[UdpCarrie
     """The network of the words, for the member of this number; the carrier by UDP beside which streams can be had; and the key that seals both."""
     if options.is_alone:
         return Nobody("a class of its own"), None, None
-    seal = Seal(options.key, options.session) if options.key else None
+    seal = Seal(options.lock, options.session) if options.lock else None
     udp = None if options.broker else open_udp(options)
     carrier: Carrier = udp or open_broker(options, me, seal)
     return Sealed(carrier, seal) if seal else carrier, udp, seal

@@ -1,24 +1,32 @@
-"""Any carrier under a key: each datagram is sealed by AES-256-GCM, with the session's name as what goes with it, as `web/member/seal.js`
-does. Sealed bytes are a nonce of 12 random bytes, and then the ciphertext with its tag. What is sealed is the version 2 in one byte; the sender's
-own tag, which tells starts of members apart, in 8; a counter in 8, which is greater for each datagram of that tag; and the datagram. So what
-somebody without the key sends once more is known again, or has the tag of a start that answers nobody any more."""
+"""Any carrier under a key: each datagram is in an envelope that nobody makes without the key, as `web/member/seal.js` does. The envelope has a kind
+in one byte; the sender's own tag, which tells starts of members apart, in 8; a counter in 8, which is greater for each datagram of that sender; and the
+datagram. So what somebody without the key sends once more is known again, or is of a start that answers nobody any more.
+
+A key closes it in one of two ways. By AES-256-GCM, with the session's name as what goes with it: a nonce of 12 random bytes, and then the ciphertext with
+its tag, so nobody else reads it. Or by a tag alone, the first 16 bytes of an HMAC-SHA-256 behind it, which takes nothing but the standard library: all
+can read it, and nobody else writes it. A key says which it makes, and whoever has it takes both."""
 from __future__ import annotations
 
 import dataclasses
+import hmac
 import itertools
 import os
-from typing import Dict, NamedTuple, Optional, Tuple
+from typing import Any, Dict, NamedTuple, Optional, Tuple
 
-from ..keys import key_bytes
-from ..packages import module_of
+from ..keys import is_tagging, key_bytes
+from ..packages import has_module, module_of
 from .carrier import Carrier, Origin, Over
 from .mqtt import GONE
 
 NONCE = 12
 TAG = 16
 
-# the envelope of a datagram: its version, a sender's tag, and a counter
-VERSION, SENDER, COUNTER = 2, 8, 8
+# the module of AES-256-GCM, and the package that has it
+CIPHER, PACKAGE = "cryptography.hazmat.primitives.ciphers.aead", "python3-cryptography"
+
+# the envelope of a datagram: its kind, by how it is closed, a sender's tag, and a counter
+SEALED_KIND, TAGGED_KIND = 2, 3
+SENDER, COUNTER = 8, 8
 HEAD = 1 + SENDER + COUNTER
 
 # senders that are remembered, and how far behind the greatest counter of one its datagrams may come
@@ -43,38 +51,64 @@ def new_sender() -> bytes:
     return below(os.urandom(SENDER))
 
 
+def cipher_of(key: str) -> Any:
+    """AES-256-GCM under a key; None where this Python has none and the key needs none."""
+    if is_tagging(key) and not has_module(CIPHER):
+        return None
+    return module_of(CIPHER, PACKAGE, "--key").AESGCM(key_bytes(key))
+
+
 class Seal:
     """The key of a session by its text, the session's name, and who sends by it: this start."""
 
     def __init__(self, key: str, session: str) -> None:
         self.sender = new_sender()
         self.counter = itertools.count(1)
-        self.cipher = module_of("cryptography.hazmat.primitives.ciphers.aead", "python3-cryptography", "--key").AESGCM(key_bytes(key))
-        self.more = session.encode()
+        self.is_tagging = is_tagging(key)
+        self.cipher = cipher_of(key)
+        self.key = key_bytes(key)
+        self.session = session.encode()
 
     def close(self, data: bytes, more: bytes = b"") -> bytes:
-        """What is sealed, and what else goes with it that the other side knows."""
+        """What is closed, and what else goes with it that the other side knows."""
+        if self.is_tagging:
+            return data + self.tag(data, more)
         nonce = os.urandom(NONCE)
-        sealed: bytes = self.cipher.encrypt(nonce, data, self.more + more)
+        sealed: bytes = self.cipher.encrypt(nonce, data, self.session + more)
         return nonce + sealed
 
-    def open(self, sealed: bytes, more: bytes = b"") -> Optional[bytes]:
-        """What was sealed, or None if it was not sealed by this key for this session."""
-        if len(sealed) < NONCE + TAG:
+    def open(self, closed: bytes, more: bytes = b"") -> Optional[bytes]:
+        """What was closed, in either way, or None if it was not closed by this key for this session."""
+        tagged = self.untagged(closed, more)
+        return self.unsealed(closed, more) if tagged is None else tagged
+
+    def tag(self, data: bytes, more: bytes) -> bytes:
+        """A session's name has no zero, and of what else goes with it the length stands before it: so no two are alike."""
+        return hmac.digest(self.key, self.session + bytes([0, len(more)]) + more + data, "sha256")[:TAG]
+
+    def untagged(self, closed: bytes, more: bytes = b"") -> Optional[bytes]:
+        data, tag = closed[:-TAG], closed[-TAG:]
+        return data if hmac.compare_digest(self.tag(data, more), tag) else None
+
+    def unsealed(self, closed: bytes, more: bytes = b"") -> Optional[bytes]:
+        if self.cipher is None or len(closed) < NONCE + TAG:
             return None
         try:
-            opened: bytes = self.cipher.decrypt(sealed[:NONCE], sealed[NONCE:], self.more + more)
+            opened: bytes = self.cipher.decrypt(closed[:NONCE], closed[NONCE:], self.session + more)
             return opened
         except Exception:  # of many kinds, by the version: whatever does not open is none of ours
             return None
 
     def write(self, letter: Letter) -> bytes:
-        return self.close(bytes([VERSION]) + letter.sender + letter.counter.to_bytes(COUNTER, "big") + letter.data)
+        kind = TAGGED_KIND if self.is_tagging else SEALED_KIND
+        return self.close(bytes([kind]) + letter.sender + letter.counter.to_bytes(COUNTER, "big") + letter.data)
 
-    def read(self, sealed: bytes) -> Optional[Letter]:
-        """None too if it was sealed by a member of another version."""
-        opened = self.open(sealed)
-        if opened is None or len(opened) < HEAD or opened[0] != VERSION:
+    def read(self, closed: bytes) -> Optional[Letter]:
+        """None too if a member of another version closed it."""
+        opened = self.untagged(closed) if closed[:1] == bytes([TAGGED_KIND]) else None
+        kind = SEALED_KIND if opened is None else TAGGED_KIND
+        opened = self.unsealed(closed) if opened is None else opened
+        if opened is None or len(opened) < HEAD or opened[0] != kind:
             return None
         return Letter(below(opened[1:1 + SENDER]), int.from_bytes(opened[1 + SENDER:HEAD], "big"), opened[HEAD:])
 
@@ -108,7 +142,7 @@ class Counters:
 
 
 class Sealed(Over):
-    """A carrier whose datagrams are sealed. What does not open is dropped, and counted by the inbox; what came before is dropped. An origin is
+    """A carrier whose datagrams a key closes. What does not open is dropped, and counted by the inbox; what came before is dropped. An origin is
     that of the sender's tag; if the network keeps names, with its name."""
 
     def __init__(self, under: Carrier, seal: Seal) -> None:
@@ -118,7 +152,7 @@ class Sealed(Over):
 
     @property
     def where(self) -> str:
-        return self.under.where + ", sealed by a key"
+        return self.under.where + (", tagged by a key" if self.seal.is_tagging else ", sealed by a key")
 
     def arrive(self, data: bytes, origin: Origin) -> None:
         letter = self.seal.read(data)

@@ -630,6 +630,8 @@ export const TEXTS = {
   "toldOnBroker": ["the broker {host}, session {name}", "der Broker {host}, Sitzung {name}", "الوسيط {host}، الجلسة {name}"],
   "toldInTabs": ["the tabs of this browser, session {name}", "die Tabs dieses Browsers, Sitzung {name}", "ألسنة هذا المتصفح، الجلسة {name}"],
   "toldSealed": ["{where}, sealed by a key", "{where}, versiegelt mit einem Schlüssel", "{where}، مختومة بمفتاح"],
+  "toldTagged": ["{where}, tagged by a key", "{where}, mit einem Schlüssel gekennzeichnet", "{where}، موسومة بمفتاح"],
+  "toldTaggedHere": ["{where}, tagged by the key of the invitation", "{where}, gekennzeichnet mit dem Schlüssel der Einladung", "{where}، موسومة بمفتاح الدعوة"],
   "toldSealedHere": ["{where}, sealed by the key of the invitation", "{where}, versiegelt mit dem Schlüssel der Einladung", "{where}، مختومة بمفتاح الدعوة"],
 
   "toldBusy": ["busy", "gerade beschäftigt", "مشغول"],
@@ -676,6 +678,11 @@ export const TEXTS = {
   "toldManyGuests": ["{n} browsers have members here, and there is no room for more", "{n} Browser haben hier Mitglieder, und mehr haben keinen Platz", "عدد المتصفحات هنا {n}، ولا مكان لغيرها"],
   "toldLeaving": ["the member that you had here is ending: open the page anew", "das Mitglied, das du hier hattest, endet gerade: öffne die Seite neu", "العضو الذي كان لك هنا ينتهي: افتح الصفحة من جديد"],
   "toldManyWindows": ["too many windows of one browser", "zu viele Fenster eines Browsers", "نوافذ كثيرة لمتصفح واحد"],
+  "toldNoKey": [
+    "it has no key, and does not say that its board is open to everybody: open=yes",
+    "sie hat keinen Schlüssel, und sagt nicht, dass ihre Tafel allen offensteht: open=yes",
+    "لا مفتاح له، ولا يقول إن لوحته مفتوحة للجميع: \u2066open=yes\u2069"
+  ],
   "toldBrokerAddress": ["a broker has an address that begins with wss://", "die Adresse eines Brokers beginnt mit wss://", "عنوان الوسيط يبدأ بـ \u2066wss://\u2069"],
   "toldSessionName": [
     "the name of a session has up to 64 letters, digits, dots, dashes and underscores",

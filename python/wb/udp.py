@@ -86,3 +86,8 @@ def place_of(address: Any) -> int:
 def addresses(many: Iterable[str]) -> List[Address]:
     """The addresses of texts such as 127.0.0.1:8017."""
     return [(host, int(port)) for host, _, port in (each.rpartition(":") for each in many)]
+
+
+def is_here(group: Optional[Address] = None, bind: Address = ("0.0.0.0", 0), to: Iterable[Address] = (), **_: Any) -> bool:
+    """Whether nobody beyond this machine can hear, or be heard."""
+    return group is None and all(host == "localhost" or host.startswith("127.") for host, _ in [bind, *to])

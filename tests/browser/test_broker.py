@@ -79,7 +79,7 @@ def draw_with_live(facts: Facts, live: Window, windows: list[Window]) -> None:
 
 def check_stranger(facts: Facts, browser: Ordinary, folder: Folder, broker: Broker, windows: list[Window]) -> None:
     """A member without the key, or with another, is not heard and hears nothing."""
-    strangers = [Window(browser, folder.address(fragment(broker))), Window(browser, folder.address(fragment(broker, key="B" * 42 + "E")))]
+    strangers = [Window(browser, folder.address(fragment(broker, open="yes"))), Window(browser, folder.address(fragment(broker, key="B" * 42 + "E")))]
     before = windows[0].drawings()
     for stranger in strangers:
         facts("a stranger's page is ready", stranger.is_ready())

@@ -5,6 +5,7 @@ import test from 'node:test';
 import { Member } from 'wb/node.js';
 import { check } from '../check.mjs';
 
+const KEY = `tag.${'A'.repeat(43)}`;
 const begin = () => spawn(process.env.WB_BROKER, ['-p', process.env.WB_PORT], { stdio: 'ignore' });
 const pause = (many) => new Promise((done) => setTimeout(done, many));
 
@@ -16,7 +17,7 @@ async function until(holds) {
 /** A member, once the broker answers. */
 async function opened(number) {
   let member = null;
-  await until(async () => (member ??= await Member.openAtBroker(number, `mqtt://127.0.0.1:${process.env.WB_PORT}`, 'board', { listen: 0 }).catch(() => null)));
+  await until(async () => (member ??= await Member.openAtBroker(number, `mqtt://127.0.0.1:${process.env.WB_PORT}`, 'board', { listen: 0, key: KEY }).catch(() => null)));
   return member;
 }
 
@@ -29,7 +30,7 @@ test('two members at a broker that is gone for a while', async (t) => {
   check('what is drawn comes by the broker, with its name and its page', [await until(() => drawn.length === 1), drawn], [true, [[1, '1/1', 'text 0 0 "by a \\"broker\\""']]]);
   broker.kill('SIGKILL');
   await once(broker, 'exit');
-  await until(() => members.every(({ transport }) => !transport.isCarrying));
+  await until(() => members.every(({ carrier }) => !carrier.isCarrying));
   await members[0].draw('1/1', 'line 0 1 4 1 *');
   await pause(1000);
   broker = begin();
@@ -38,6 +39,6 @@ test('two members at a broker that is gone for a while', async (t) => {
 });
 
 test('a broker that is none is told, and an address that is none', async () => {
-  check('no broker', await Member.openAtBroker(3, 'mqtt://127.0.0.1:1', 'board', { listen: 0 }).catch(({ code }) => code), 'ECONNREFUSED');
-  check('no address', await Member.openAtBroker(3, 'http://127.0.0.1:1', 'board', { listen: 0 }).catch((fault) => fault.constructor.name), 'RangeError');
+  check('no broker', await Member.openAtBroker(3, 'mqtt://127.0.0.1:1', 'board', { listen: 0, open: true }).catch(({ code }) => code), 'ECONNREFUSED');
+  check('no address', await Member.openAtBroker(3, 'http://127.0.0.1:1', 'board', { listen: 0, open: true }).catch((fault) => fault.constructor.name), 'RangeError');
 });

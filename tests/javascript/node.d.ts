@@ -31,12 +31,26 @@ declare module 'node:fs' {
 }
 declare module 'node:crypto' {
   export function randomInt(max: number): number;
-  export function randomBytes(many: number): { toString(form: 'hex'): string };
+  export function randomBytes(many: number): Buffer & { toString(form: 'hex'): string };
   interface Hash {
     update(bytes: Uint8Array): Hash;
     digest(): { readBigUInt64BE(): bigint };
   }
   export function createHash(name: 'sha256'): Hash;
+  interface Mac {
+    update(bytes: Uint8Array): Mac;
+    digest(): Buffer;
+  }
+  export function createHmac(name: 'sha256', key: Uint8Array): Mac;
+  interface Cipher {
+    setAAD(bytes: Uint8Array): this;
+    update(bytes: Uint8Array): Buffer;
+    final(): Buffer;
+    getAuthTag(): Buffer;
+  }
+  export function createCipheriv(name: 'aes-256-gcm', key: Uint8Array, nonce: Uint8Array): Cipher;
+  export function createDecipheriv(name: 'aes-256-gcm', key: Uint8Array, nonce: Uint8Array, options: { authTagLength: number }): Cipher & { setAuthTag(tag: Uint8Array): Cipher };
+  export function timingSafeEqual(one: Uint8Array, other: Uint8Array): boolean;
 }
 declare module 'node:net' {
   export interface Socket {
@@ -54,9 +68,11 @@ declare module 'node:tls' {
 }
 interface Buffer extends Uint8Array {
   subarray(from?: number, until?: number): Buffer;
+  readBigUInt64BE(at?: number): bigint;
+  writeBigUInt64BE(value: bigint, at: number): void;
 }
 declare const Buffer: {
-  from(given: string | ArrayLike<number>): Buffer;
+  from(given: string | ArrayLike<number>, form?: 'base64'): Buffer;
   concat(parts: readonly Uint8Array[]): Buffer;
   alloc(size: number): Buffer;
   compare(a: Uint8Array, b: Uint8Array): number;

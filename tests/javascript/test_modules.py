@@ -19,7 +19,7 @@ LETTERS = "Größe\n≈ 漢 \U0001f600, and more than one text takes at most"
 
 
 def test_units(tests_of: Tests) -> None:
-    tests_of("units.test.mjs")
+    tests_of("units.test.mjs", WB_VECTORS=str(TOP / "docs/vectors"))
 
 
 def test_faults(room: Path) -> None:

@@ -15,7 +15,7 @@ from ..programs.conftest import found, modules, run
 from .conftest import HERE, HOME
 
 CHECKS = ["--strict", "--target", "es2022", "--module", "es2022", "--moduleResolution", "node", "--lib", "es2022,dom"]
-SCRIPTS = ["broker", "drawings", "ink", "node", "record", "udp", "wb"]
+SCRIPTS = ["broker", "drawings", "ink", "key", "node", "record", "udp", "wb"]
 FIRST, SECOND = re.findall(r"```js\n(.*?)```", (HOME / "README.md").read_text(), re.DOTALL)
 
 # a program in TypeScript that has the package

@@ -4,7 +4,7 @@ import { tmpdir } from 'node:os';
 import { join } from 'node:path';
 import test from 'node:test';
 import { Host, HostEnded, Refused, drawingIn } from 'wb';
-import { Member, RecordedHost, load } from 'wb/node.js';
+import { Key, Member, RecordedHost, load } from 'wb/node.js';
 import { check } from '../check.mjs';
 
 const LINE = 'line 0 0 4 0 *';
@@ -32,6 +32,41 @@ async function refused(call) {
 
 /** What a host that is not judged answers. */
 const brief = ({ send, due, became, refused }) => ({ send, due, became, refused });
+
+/** Members at addresses of this machine, each of which sends to the others, by the texts of their keys. */
+async function membersOf(keys) {
+  const bind = { address: '127.0.0.1', port: 0 }, members = await Promise.all(keys.map((key, at) => Member.open(at + 1, { program, listen: 0, bind, key })));
+  for (const member of members) member.carrier.to = members.filter((other) => other !== member).map((other) => other.address());
+  return members;
+}
+
+for (const kind of ['sealed', 'tagged']) {
+  const vectors = JSON.parse(readFileSync(join(process.env.WB_VECTORS, `${kind}.json`), 'utf8')), bytes = (digits) => Uint8Array.from(Buffer.from(digits, 'hex'));
+  test(`${kind}: what opens by a key, once, and what is dropped`, () => {
+    const key = new Key(vectors.key, vectors.session), sender = BigInt(`0x${vectors.sender}`);
+    for (const it of vectors.datagrams) {
+      const [opened, again] = [1, 2].map(() => key.open(bytes(it[kind])));
+      check(it.what, [[...opened.datagram], opened.sender === sender, again], [[...bytes(it.datagram)], true, null]);
+    }
+    for (const it of vectors.dropped) check(it.why, new Key(vectors.key, vectors.session).open(bytes(it[kind])), null);
+  });
+  test(`${kind}: members of one key show one page, and another is not heard`, async () => {
+    const members = await membersOf([vectors.key, vectors.key, `${vectors.key.slice(0, -2)}BA`]), [one, two] = members;
+    for (const [at, member] of members.entries()) await member.draw('1/1', `line 0 ${at} 4 ${at} *`);
+    const views = async () => Promise.all(members.map(async ({ host }) => (await host.view('1/1')).length));
+    for (const end = Date.now() + 60_000; (await views())[1] < 2 && Date.now() < end;) await new Promise((done) => setTimeout(done, 20));
+    check('as many drawings', await views(), [2, 2, 1]);
+    check('and the same', `${(await one.host.view('1/1')).map(({ source, operation }) => [source, operation])}`, `${(await two.host.view('1/1')).map(({ source, operation }) => [source, operation])}`);
+    for (const member of members) member.end();
+  });
+}
+
+test('beyond this machine a member has a key, or is open', async () => {
+  const group = { address: '239.192.17.1', port: 8_017 };
+  for (const words of [{ group }, {}, { to: [{ address: '192.0.2.1', port: 9 }] }, { group, key: 'A'.repeat(43), open: true }]) {
+    check('neither, or both', await raised(() => Member.open(1, { program, ...words })), 'RangeError');
+  }
+});
 
 test('two hosts: what one draws is shown by the other, and what is refused changes nothing', async () => {
   const one = await Host.open(1, { program, seed: 42n, listen: 0 }), two = await Host.open(2, { program, seed: 43n, listen: 1000 });

@@ -27,12 +27,18 @@ def script_of(page: str) -> str:
     return str(re.findall('<script type="module" src="([^"]+)">', page)[0])
 
 
+def opened(words: List[str]) -> List[str]:
+    """The words, with one that lets everybody in if none names a key."""
+    return words if "--key" in words or any("key=" in word for word in words) else [*words, "--open"]
+
+
 class Process:
     """One start of ./wb-live, and the newest state that it told. Its records are kept in a folder of its own, unless words or the
-    environment say where."""
+    environment say where. It is open to everybody, unless it is closed or has a key."""
 
     def __init__(self, words: List[str], web: bool = True, environment: Optional[Dict[str, str]] = None, limits: Any = None, top: Path = TOP,
-                 launch: Optional[List[str]] = None) -> None:
+                 launch: Optional[List[str]] = None, closed: bool = False) -> None:
+        words = words if closed else opened(words)
         self.folder = tempfile.TemporaryDirectory(prefix="wb-state-")
         self.process = subprocess.Popen(
             [sys.executable, *(launch or [str(top / "wb-live")]), *words] + (["--web", "0"] if web and "--web" not in words else []),

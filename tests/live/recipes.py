@@ -51,7 +51,7 @@ def follow(lines: List[str], environment: Dict[str, str]) -> List[Process]:
             ran = subprocess.run([sys.executable, str(TOP / "wb-live"), *words], stdin=subprocess.DEVNULL, stdout=subprocess.PIPE, text=True, check=True)
             invitation = ran.stdout.split("\n")[0]
         else:
-            members.append(Process(words, environment=environment))
+            members.append(Process(words, environment=environment, closed=True))
     return members
 
 
@@ -86,6 +86,6 @@ def check_recipes(facts: Facts, room: BrokerFiles) -> None:
             login.touch(0o600)
             login.write_text((room.path / "m1.login").read_text())
             try:
-                check_recipe(facts, start, {"SSL_CERT_FILE": str(room.path / "own.pem")})
+                check_recipe(facts, start, {"SSL_CERT_FILE": str(room.path / "own.pem"), "XDG_STATE_HOME": str(place)})
             finally:
                 os.chdir(here)

@@ -187,7 +187,7 @@ const seal = await Seal.of(key, session), heard = [];
 const enveloped = (tag, counter, data) => seal.close(Uint8Array.from([2, ...Buffer.from(tag, 'hex'), 0, 0, 0, 0, 0, 0, 0, counter, ...data]));
 let foreign = 0;
 const take = async (bytes) => {
-  const plain = await seal.open(bytes);
+  const plain = (await seal.open(bytes))?.plain;
   foreign += plain ? 0 : 1;
   if (!plain) return;
   heard.push(Buffer.from(plain.subarray(17)).toString('hex'));
@@ -230,7 +230,7 @@ def check_browser(facts: Facts) -> None:
 
 def check_packages(facts: Facts, room: BrokerFiles) -> None:
     """A start without the package ends with one line that names the one command."""
-    for name, words, package in (("paho", ["--broker", "mqtts://127.0.0.1/x"], "python3-paho-mqtt"), ("cryptography", ["--key", str(room.path / "a.key")], "python3-cryptography")):
+    for name, words, package in (("paho", ["--broker", "mqtts://127.0.0.1/x", "--open"], "python3-paho-mqtt"), ("cryptography", ["--key", str(room.path / "a.key")], "python3-cryptography")):
         empty = room.path / ("without " + name)
         (empty / name).mkdir(parents=True)
         (empty / name / "__init__.py").write_text("raise ImportError\n")

@@ -31,7 +31,7 @@ from live.invitation import InvitationFault, read_broker, read_invitation, write
 from live.keys import KeyFault, key_bytes, new_key, read_key, write_key
 from live.options import read_options
 from live.packages import advice
-from live.state import session_name
+from live.state import lock, session_name
 from ..facts import Facts
 from .members import PATIENCE, TOP
 from .test_networks import free_ports
@@ -248,7 +248,9 @@ def test_senders(facts: Facts) -> None:
 
 def test_invitations(facts: Facts) -> None:
     def line(words: str) -> str:
-        return write_invitation(read_options(words.split()))
+        options = read_options(words.split())
+        lock(options)
+        return write_invitation(options)
 
     with tempfile.TemporaryDirectory() as folder:
         path = str(Path(folder) / "a.key")
@@ -266,9 +268,9 @@ def test_invitations(facts: Facts) -> None:
               "https://page.example/board/#session=class-7&broker=wss%3A%2F%2Fbroker.example%2Fmqtt&key=" + key)
         facts("other sessions have other records", len({session_name(read_options(words.split())) for words in (
             "", "--session b", "--key " + path, "--broker mqtts://h/s", "--broker mqtts://h/t", "--broker mqtts://h:1/s", "--lan", "--ports 25000", "--web h:1", "--web h:2")}), 10)
-    facts("of a group", read_options([line("--lan 239.1.2.3:5000 --session b")]).lan, ("239.1.2.3", 5000))
-    facts("of ports", read_options([line("--ports 25000")]).ports, 25_000)
-    facts("of peers there is none", fault_of(lambda: line("--listen 127.0.0.1:1 --peer 127.0.0.1:2")).startswith("peers are named one by one"), True)
+    group, ports = read_options([line("--lan 239.1.2.3:5000 --session b --open")]), read_options([line("--ports 25000 --open")])
+    facts("of an open group, and of ports", (group.lan, group.is_open, ports.ports, ports.is_open), (("239.1.2.3", 5000), True, 25_000, True))
+    facts("of peers there is none", fault_of(lambda: line("--listen 127.0.0.1:1 --peer 127.0.0.1:2 --open")).startswith("peers are named one by one"), True)
     facts("nor of a class of its own", fault_of(lambda: line("--web h:1")).startswith("others join a class by the address of its page"), True)
     browser = read_options(["https://page.example/#session=x&broker=wss%3A%2F%2Fanna%3Ase%2540cret%40h%2Fmqtt&lose=0.3"])
     facts("a browser's line may have a login", (browser.broker, browser.login, browser.lose), (Broker("wss", "h", 443, "/mqtt"), Login("anna", "se@cret"), 0.0))
@@ -284,7 +286,7 @@ def test_code(facts: Facts) -> None:
     if not shutil.which("qrencode"):
         pytest.skip("there is no qrencode: apt-get install qrencode")
     terminal, inner = pty.openpty()
-    command = [sys.executable, str(TOP / "wb-live"), "--invite", "--ports", "25000"]
+    command = [sys.executable, str(TOP / "wb-live"), "--invite", "--ports", "25000", "--open"]
     ran = subprocess.Popen(command, stdin=inner, stdout=inner, stderr=subprocess.PIPE)
     os.close(inner)
     told = b""
@@ -294,9 +296,9 @@ def test_code(facts: Facts) -> None:
     except OSError:  # the other end is closed
         pass
     lines = told.decode("utf-8").replace("\r", "").split("\n")
-    facts("an invitation in a terminal", (ran.wait(PATIENCE), lines[0]), (0, "wb:#session=board&ports=25000"))
+    facts("an invitation in a terminal", (ran.wait(PATIENCE), lines[0]), (0, "wb:#session=board&ports=25000&open=yes"))
     facts("has a picture below", len(lines) > 15 and all(set(line) <= set(" \u2580\u2584\u2588") for line in lines[1:]), True)
-    facts("and a word on what has no key", b"no key" in (ran.stderr.read() if ran.stderr else b""), True)
+    facts("and a word on what is open", b"is open" in (ran.stderr.read() if ran.stderr else b""), True)
     if ran.stderr:
         ran.stderr.close()
     os.close(terminal)
@@ -413,27 +415,32 @@ const hex = (bytes) => Buffer.from(bytes).toString('hex'), unhex = (digits) => n
 const { key, session, closed, line } = JSON.parse(process.argv[1]);
 const seal = await Seal.of(key, session), opened = await seal.open(unhex(closed)), made = newKey();
 const read = readInvitation(new URL(line).hash), written = 'https://page.example/' + writeInvitation(read);
-console.log(JSON.stringify({ opened: opened && hex(opened), closed: hex(await seal.close(unhex('00ff5742'))), made, read, written }));
+console.log(JSON.stringify({ opened: opened && hex(opened.plain), closed: hex(await seal.close(unhex('00ff5742'))), made, read, written }));
 """
 
 
 @needs_seals
 @pytest.mark.skipif(not NODE, reason="there is no node (apt-get install nodejs)")
 def test_browsers(facts: Facts) -> None:
-    """A browser seals, opens and invites as we do."""
+    """A browser seals, tags, opens and invites as we do."""
+    for key in (KEY, "tag." + KEY):
+        check_browser(facts, key)
+
+
+def check_browser(facts: Facts, key: str) -> None:
     import json
 
     from live.carriers.sealed import Seal
 
-    seal, key = Seal(KEY, "class-7"), KEY
+    seal = Seal(key, "class-7")
     line = "https://page.example/#session=class-7&broker=wss%3A%2F%2Fbroker.example%2Fmqtt&key=" + key
-    asked = json.dumps({"key": key, "session": "class-7", "closed": seal.close(b"\x00\xffWB").hex(), "line": line})
+    asked = json.dumps({"key": key, "session": "class-7", "closed": seal.close(b"\x03\xffWB").hex(), "line": line})
     program = AGREEMENT % {"web": TOP / "web" / "member"}
     ran = subprocess.run([str(NODE), "--input-type=module", "-e", program, asked], stdout=subprocess.PIPE, stderr=subprocess.PIPE, text=True, timeout=60, check=False)
     told = json.loads(ran.stdout) if ran.returncode == 0 else {"fault": ran.stderr}
-    facts("a browser opens what we seal", told.get("opened"), b"\x00\xffWB".hex())
+    facts("a browser opens what we seal", told.get("opened"), b"\x03\xffWB".hex())
     facts("and we what it seals", seal.open(bytes.fromhex(told.get("closed", ""))), b"\x00\xffWB")
     facts("its keys are ours", len(key_bytes(told.get("made", ""))), 32)
-    facts("it reads our invitation", told.get("read"), {"session": "class-7", "broker": "wss://broker.example/mqtt", "key": key, "more": {}})
+    facts("it reads our invitation", told.get("read"), {"session": "class-7", "broker": "wss://broker.example/mqtt", "key": key, "isOpen": False, "more": {}})
     facts("and we its own", read_invitation(told.get("written", "#")), {"session": "class-7", "broker": "wss://broker.example/mqtt", "key": key})
     facts("which is the same line", told.get("written"), line)

@@ -36,7 +36,7 @@ def typed(page: str, words: str) -> Process:
     [line] = {it for it in shell_lines(page) if it.split(" ", 1)[-1] == words or it == words}
     command, *rest = shlex.split(line)
     assert command in ("./wb-live", "bin/wb-live"), line
-    return Process(rest, web=False)
+    return Process(rest, web=False, environment={"XDG_STATE_HOME": os.getcwd()}, closed=True)
 
 
 @pytest.mark.inside

@@ -37,11 +37,11 @@ AHEAD = 86_000 * 1_000_000
 class Ear(Attacker):
     """A stranger at a port of the session: it hears what members send, and may give a stream beside it."""
 
-    def __init__(self, port: int) -> None:
+    def __init__(self, port: int, first: int = FIRST_PORT) -> None:
         super().__init__(port)
         self.socket.close()
         self.socket = socket.socket(socket.AF_INET, socket.SOCK_DGRAM)
-        self.socket.bind(("127.0.0.1", FIRST_PORT + PORTS - 1))
+        self.socket.bind(("127.0.0.1", first + PORTS - 1))
         self.heard: List[Tuple[bytes, int]] = []
         self.is_done = threading.Event()
         self.thread = threading.Thread(target=self.listen, daemon=True)

@@ -16,7 +16,7 @@ from pathlib import Path
 from typing import Callable, List, Optional
 
 from ..facts import Facts
-from .members import PATIENCE, TOP, Process
+from .members import PATIENCE, TOP, Process, opened
 from .test_networks import hosts_of
 
 FIRST_PORT = 26_200
@@ -29,7 +29,7 @@ class Screen:
     def __init__(self, words: List[str]) -> None:
         self.terminal, inner = pty.openpty()
         fcntl.ioctl(inner, termios.TIOCSWINSZ, struct.pack("HHHH", ROWS, COLUMNS, 0, 0))
-        command = [sys.executable, str(TOP / "wb-live"), *words]
+        command = [sys.executable, str(TOP / "wb-live"), *opened(words)]
         environment = {name: value for name, value in os.environ.items() if name not in ("LINES", "COLUMNS")}
         self.folder = tempfile.TemporaryDirectory(prefix="wb-state-")
         environment["XDG_STATE_HOME"] = self.folder.name

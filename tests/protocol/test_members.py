@@ -1,5 +1,5 @@
 """A member that was written from docs/PROTOCOL.md alone, beside `wb-live`: each gets what the other drew, a third of what comes to either being lost;
-a newcomer gets it from that member alone; and streams go both ways. With and without a key."""
+a newcomer gets it from that member alone; and streams go both ways. Open, and under keys of each kind."""
 
 from __future__ import annotations
 
@@ -21,7 +21,7 @@ from ..seeds import first_seed
 from . import random_values
 from .carrying import Station
 from .codec import LINE, Aim, Operation, Page, Shape, Text
-from .envelope import Seal
+from .envelope import Seal, own_key
 from .member import Member
 from .words import operation_words
 
@@ -33,33 +33,37 @@ NUMBER = 4_000_000_001
 WIDTH, HEIGHT = 200, 100
 
 HAS_SEALS = importlib.util.find_spec("cryptography") is not None
-with_and_without = pytest.mark.parametrize("sealed", [
-    pytest.param(False, id="plain"),
-    pytest.param(True, id="sealed", marks=pytest.mark.skipif(not HAS_SEALS, reason="there is no cryptography for this Python (apt-get install python3-cryptography)")),
-])
+SEALED = pytest.param("sealed", marks=pytest.mark.skipif(not HAS_SEALS, reason="there is no cryptography for this Python (apt-get install python3-cryptography)"))
+KINDS = ("open", SEALED, "tagged")
 
 
 class Session:
-    """The ports of a session, and its key if it has one."""
+    """The ports of a session, and its key if it has one: given, or that of a user, which wb-live makes."""
 
-    def __init__(self, first_port: int, folder: Path, sealed: bool) -> None:
-        self.first_port, self.folder = first_port, folder
-        self.key: Optional[Path] = folder / "session.key" if sealed else None
-        self.text = new_key()
-        if self.key:
-            self.key.write_text(self.text + "\n")
+    def __init__(self, first_port: int, folder: Path, kind: str) -> None:
+        self.first_port, self.folder, self.kind = first_port, folder, kind
+        self.key = folder / ("wb/key" if kind == "own" else "session.key")
+        if kind in ("sealed", "tagged"):
+            self.key.write_text(new_key(kind == "tagged") + "\n")
             self.key.chmod(0o600)
 
+    def seal(self) -> Optional[Seal]:
+        if self.kind == "open":
+            return None
+        text = self.key.read_text().split("\n")[0]
+        return Seal(own_key(text, self.first_port) if self.kind == "own" else text, "board")
+
     def live(self, number: int, *words: str) -> Process:
-        key = ["--key", str(self.key)] if self.key else []
+        key = ["--key", str(self.key)] if self.kind in ("sealed", "tagged") else []
         record = ["--record", str(self.folder / f"{number}.wb")]
-        return Process(["--ports", str(self.first_port), "--me", str(number), "--lose", str(LOSE), "--speed", str(SPEED), "--cells", "4096", *record, *key, *words])
+        given = ["--ports", str(self.first_port), "--me", str(number), "--lose", str(LOSE), "--speed", str(SPEED), "--cells", "4096", *record, *key, *words]
+        return Process(given, environment={"XDG_STATE_HOME": str(self.folder)}, closed=self.kind != "open")
 
     @contextmanager
     def stranger(self, number: int) -> Iterator[Station]:
         chance = random.Random(f"{first_seed()} {number}")
         member = Member(number, chance, wall=time.time_ns() // 1000)
-        station = Station(member, self.first_port, chance, Seal(self.text, "board") if self.key else None, LOSE, SPEED)
+        station = Station(member, self.first_port, chance, self.seal(), LOSE, SPEED)
         try:
             yield station
         finally:
@@ -109,12 +113,12 @@ def knows(live: Process, number: int) -> bool:
     return live.wait_for(lambda states: any(it["member"] == number and it["delay"] is not None for it in states["members"]["members"]))
 
 
-@with_and_without
+@pytest.mark.parametrize("kind", [*KINDS, "own"])
 @pytest.mark.timeout(2 * LONGEST)
-def test_both_ways(facts: Facts, tmp_path: Path, sealed: bool) -> None:
-    session = Session(FIRST_PORT + 64 * sealed, tmp_path, sealed)
+def test_both_ways(facts: Facts, tmp_path: Path, kind: str) -> None:
+    session = Session(FIRST_PORT + 64 * ("open", "sealed", "tagged", "own").index(kind), tmp_path, kind)
+    live = session.live(7)
     with session.stranger(NUMBER) as station:
-        live = session.live(7)
         draw_both(random.Random(first_seed()), live, station)
         facts("wb-live has all", comes(is_whole(live, 2 * DRAWOPS), LONGEST), True)
         facts("the stranger has all", comes(lambda: station.ask(lambda it: it.count() == 2 * DRAWOPS * len(PAGES) and not it.lacking()), LONGEST), True)
@@ -128,11 +132,11 @@ def test_both_ways(facts: Facts, tmp_path: Path, sealed: bool) -> None:
         facts("the newcomer ends with 0", newcomer.end(), 0)
 
 
-@with_and_without
+@pytest.mark.parametrize("kind", KINDS)
 @pytest.mark.timeout(2 * LONGEST)
-def test_streams(facts: Facts, tmp_path: Path, sealed: bool) -> None:
+def test_streams(facts: Facts, tmp_path: Path, kind: str) -> None:
     """A newcomer of `wb-live` takes a stream of the stranger, and another stranger one of the newcomer."""
-    session = Session(FIRST_PORT + 128 + 64 * sealed, tmp_path, sealed)
+    session = Session(FIRST_PORT + 256 + 64 * ("open", "sealed", "tagged").index(kind), tmp_path, kind)
     with session.stranger(NUMBER) as station:
         for number in range(MANY):
             station.draw(PAGES[number % 2], Shape(LINE, 0, number % 90, number % 99, number % 90, 33 + number % 90))
@@ -151,7 +155,7 @@ def test_streams(facts: Facts, tmp_path: Path, sealed: bool) -> None:
 
 def test_twins(facts: Facts, tmp_path: Path) -> None:
     """A member of the same number, which `--me` names: each sees the other."""
-    session = Session(FIRST_PORT + 256, tmp_path, False)
+    session = Session(FIRST_PORT + 448, tmp_path, "open")
     with session.stranger(NUMBER) as station:
         live = session.live(NUMBER)
         facts("wb-live sees its twin", live.wait_for(lambda states: states["hello"]["twin"]), True)

@@ -12,8 +12,10 @@ from typing import Any
 
 import pytest
 
+from live.keys import key_for
+
 from ..host.program import TOP, host
-from . import codec
+from . import codec, envelope
 from .member import LISTENING, UNKNOWN_DELAY, Member, delay_of
 from .sealed_vectors import DRAWOPS, GIVEN, OURS
 from .timer_vectors import PAGE, silent
@@ -23,6 +25,7 @@ from .words import words_of
 VECTORS = TOP / "docs/vectors"
 TIMERS = json.loads((VECTORS / "timers.json").read_text())
 SEALED = json.loads((VECTORS / "sealed.json").read_text())
+TAGGED = json.loads((VECTORS / "tagged.json").read_text())
 OPEN = "board 1 1000 1"
 WALL = 1_764_000_000_000_000
 needs_seals = pytest.mark.skipif(importlib.util.find_spec("cryptography") is None, reason="there is no cryptography for this Python (apt-get install python3-cryptography)")
@@ -94,7 +97,7 @@ def test_echoes() -> None:
 
 @needs_seals
 def test_sealed_by_the_member() -> None:
-    from .envelope import VERSION, Seal
+    from .envelope import Seal
 
     ours, theirs = (Seal(SEALED["key"], SEALED["session"], bytes.fromhex(sender)) for sender in (SEALED["sender"], "00" * 8))
     for it in SEALED["datagrams"]:
@@ -102,7 +105,7 @@ def test_sealed_by_the_member() -> None:
         assert ours.wrap(bytes.fromhex(it["datagram"]), bytes.fromhex(it["nonce"])) == sealed
         assert [it.unwrap(sealed)[1].hex() for it in (theirs, theirs, ours)] == [it["datagram"], "", ""]
     assert [theirs.unwrap(bytes.fromhex(it["sealed"]))[1] for it in SEALED["dropped"]] == [b""] * len(SEALED["dropped"])
-    counted = [VERSION + bytes(7) + b"\x09" + counter.to_bytes(8, "big") + b"x" for counter in (100, 36, 35, 100)]
+    counted = [envelope.SEALED + bytes(7) + b"\x09" + counter.to_bytes(8, "big") + b"x" for counter in (100, 36, 35, 100)]
     assert [theirs.unwrap(theirs.close(it))[1] for it in counted] == [b"x", b"x", b"", b""]
 
 
@@ -148,13 +151,57 @@ def test_stream() -> None:
     assert taken_by_live(bytes.fromhex(vector["answer"]), None, b"") == DRAWOPS
 
 
-@needs_seals
-def test_sealed_stream() -> None:
+def check_stream(vectors: dict[str, Any]) -> None:
     from live.carriers.sealed import Seal
 
-    vector, seal = SEALED["stream with the key"], Seal(SEALED["key"], SEALED["session"])
+    vector, seal = vectors["stream with the key"], Seal(vectors["key"], vectors["session"])
     assert asked_of_live(bytes.fromhex(vector["the asker's piece"]), seal, GIVEN) == (True, GIVEN + OURS)
     assert taken_by_live(bytes.fromhex(vector["the giver's piece"]), seal, GIVEN + OURS) == DRAWOPS
+
+
+@needs_seals
+def test_sealed_stream() -> None:
+    check_stream(SEALED)
+
+
+def test_tagged_stream() -> None:
+    check_stream(TAGGED)
+
+
+def check_datagrams(vectors: dict[str, Any], closed: str) -> None:
+    """`wb-live` and the member that was written from the page take what is to be taken, and drop what is to be dropped."""
+    from live.carriers.sealed import Letter, Seal
+
+    live, sender = Seal(vectors["key"], vectors["session"]), bytes.fromhex(vectors["sender"])
+    for it in vectors["datagrams"]:
+        data = bytes.fromhex(it["datagram"])
+        assert live.read(bytes.fromhex(it[closed])) == Letter(sender, it["counter"], data)
+        assert envelope.Seal(vectors["key"], vectors["session"]).unwrap(bytes.fromhex(it[closed])) == (sender, data)
+    for it in vectors["dropped"]:
+        data = bytes.fromhex(it[closed])
+        assert (live.read(data), envelope.Seal(vectors["key"], vectors["session"]).unwrap(data)) == (None, (b"", b"")), it["why"]
+
+
+def test_tagged_datagrams() -> None:
+    from live.carriers.sealed import Seal
+
+    check_datagrams(TAGGED, "tagged")
+    live, sender = Seal(TAGGED["key"], TAGGED["session"]), bytes.fromhex(TAGGED["sender"])
+    live.sender = sender
+    assert [live.send(bytes.fromhex(it["datagram"])).hex() for it in TAGGED["datagrams"]] == [it["tagged"] for it in TAGGED["datagrams"]]
+    assert [key_for(TAGGED["key"], "ports-%d" % it["ports from"]) for it in TAGGED["keys of sessions"]] == [it["key"] for it in TAGGED["keys of sessions"]]
+
+
+@needs_seals
+def test_both_kinds_under_one_key() -> None:
+    """Whoever has a key takes what is sealed and what is tagged under it."""
+    from live.carriers.sealed import Seal
+
+    key = TAGGED["key"][len(envelope.TAGS):]
+    for text, it, closed in ((TAGGED["key"], SEALED["datagrams"][0], "sealed"), (key, TAGGED["datagrams"][0], "tagged")):
+        data, wanted = bytes.fromhex(it[closed]), bytes.fromhex(it["datagram"])
+        letter = Seal(text, TAGGED["session"]).read(data)
+        assert letter and (letter.data, envelope.Seal(text, TAGGED["session"]).unwrap(data)[1]) == (wanted, wanted)
 
 
 @needs_seals

@@ -189,8 +189,8 @@ def page_vector(shows: str, came: list[Drawop]) -> dict[str, object]:
 def write_all(folder: Path) -> None:
     what = f"Drawops in the order in which they came, and what page 7/1 then shows in {WIDTH} columns and {HEIGHT} rows (spaces at the ends are left out), reports and lacks (docs/PROTOCOL.md)"
     pages = {"what": what, "pages": [page_vector(shows, came) for shows, came in PAGES]}
-    timers, sealed = timer_vectors.all_vectors(), sealed_vectors.all_vectors()
-    for name, content in (("datagrams.json", datagram_vectors()), ("pages.json", pages), ("timers.json", timers), ("sealed.json", sealed)):
+    timers, sealed, tagged = timer_vectors.all_vectors(), sealed_vectors.all_vectors(), sealed_vectors.tagged_vectors()
+    for name, content in (("datagrams.json", datagram_vectors()), ("pages.json", pages), ("timers.json", timers), ("sealed.json", sealed), ("tagged.json", tagged)):
         (folder / name).write_text(json.dumps(content, indent=1) + "\n")
 
 

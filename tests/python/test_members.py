@@ -4,6 +4,8 @@ from __future__ import annotations
 
 import asyncio
 import errno
+import importlib.util
+import json
 import random
 from collections.abc import Sequence
 from pathlib import Path
@@ -14,6 +16,7 @@ import wb
 
 from ..brokered import Mosquitto, find_mosquitto
 from ..facts import Facts
+from ..host.program import TOP
 from ..restarted import free_port
 from .conftest import Start, raised
 
@@ -79,8 +82,8 @@ def test_udp(start: Start, facts: Facts) -> None:
 async def in_group(record: str) -> None:
     opened: list[wb.Member] = []
     try:
-        opened = [await wb.Member.open(1, record=record, group=("239.192.17.99", 18_017), interface="127.0.0.1"),
-                  await wb.Member.open(2, group=("239.192.17.99", 18_017), interface="127.0.0.1")]
+        opened = [await wb.Member.open(1, record=record, group=("239.192.17.99", 18_017), interface="127.0.0.1", open=True),
+                  await wb.Member.open(2, group=("239.192.17.99", 18_017), interface="127.0.0.1", open=True)]
     except OSError as fault:
         pytest.skip(f"no way for groups here: {fault}")
     await opened[0].ready()
@@ -98,13 +101,13 @@ def test_group(tmp_path: Path) -> None:
 
 async def at_broker(carrier: Mosquitto, facts: Facts) -> None:
     url = "mqtt://127.0.0.1:%d" % carrier.port
-    one, two = [await wb.Member.open_at_broker(wb.Host(number, listen=0), url, "board") for number in (1, 2)]
+    one, two = [await wb.Member.open_at_broker(wb.Host(number, listen=0), url, "board", key="tag." + "A" * 43) for number in (1, 2)]
     coming = two.drawings()
     one.draw("1/1", wb.Text(0, 0, 'by a "broker"'))
     first = await asyncio.wait_for(coming.__anext__(), LONGEST)
     facts("what is drawn comes with its name and its page", (first.name, first.drawing), (wb.Name(1, wb.Page(1, 1), 1), wb.Text(0, 0, 'by a "broker"')))
     carrier.stop()
-    while one.transport.writer:
+    while one.carrier.writer:
         await asyncio.sleep(0.05)
     one.draw("1/1", "line 0 1 4 1 *")
     carrier.begin()
@@ -128,7 +131,49 @@ def test_broker(facts: Facts) -> None:
 @pytest.mark.parametrize("url, fault", [("mqtt://127.0.0.1:1", ConnectionRefusedError), ("http://127.0.0.1:1", ValueError)])
 def test_no_broker(url: str, fault: type[Exception]) -> None:
     with pytest.raises(fault):
-        asyncio.run(wb.Member.open_at_broker(wb.Host(3, listen=0), url, "board"))
+        asyncio.run(wb.Member.open_at_broker(wb.Host(3, listen=0), url, "board", open=True))
+
+
+HAS_CIPHER = importlib.util.find_spec("cryptography") is not None
+KINDS = ["tagged", pytest.param("sealed", marks=pytest.mark.skipif(not HAS_CIPHER, reason="there is no cryptography for this Python (apt-get install python3-cryptography)"))]
+
+
+@pytest.mark.parametrize("kind", KINDS)
+def test_keys(kind: str, facts: Facts) -> None:
+    """What opens by a key, once, and what is dropped."""
+    told = json.loads((TOP / "docs/vectors" / f"{kind}.json").read_text())
+    key, given = wb.Key(told["key"], told["session"]), [bytes.fromhex(it[kind]) for it in told["datagrams"]]
+    facts("datagrams open", [key.open(it) for it in given], [(bytes.fromhex(it["datagram"]), int(told["sender"], 16)) for it in told["datagrams"]])
+    facts("none of them twice", [key.open(it) for it in given], [None] * len(given))
+    facts("what is to be dropped", [wb.Key(told["key"], told["session"]).open(bytes.fromhex(it[kind])) for it in told["dropped"]], [None] * len(told["dropped"]))
+    asyncio.run(under_key(told["key"], facts))
+
+
+async def under_key(text: str, facts: Facts) -> None:
+    keys = [text, text, text[:-2] + "BA"]
+    made = [await wb.Member.open(wb.Host(number, listen=0), bind=("127.0.0.1", 0), key=key) for number, key in enumerate(keys, 1)]
+    for member in made:
+        member.carrier.to = [other.address() for other in made if other is not member]
+    for at, member in enumerate(made):
+        member.draw("1/1", f"line 0 {at} 9 {at} *")
+    views = await come_together(made[:2], 2)
+    made[2].carrier.to = [made[0].address()]
+    made[2].carrier.send(bytes.fromhex("57420101000000220000000900000001000000010000000100000000000000010100000001000400012a"))
+    await asyncio.sleep(0.2)
+    facts("two members of one key show one page", views[0], views[1])
+    facts("another is not heard, nor what has no key", [len(member.host.view("1/1")) for member in made], [2, 2, 1])
+    for member in made:
+        member.end()
+
+
+GROUP = ("239.192.17.99", 18_018)
+
+
+@pytest.mark.parametrize("words", [{"group": GROUP}, {}, {"to": [("192.0.2.1", 9)]}, {"group": GROUP, "key": "tag." + "A" * 43, "open": True}])
+def test_who_may_draw(words: dict[str, Any]) -> None:
+    """Beyond this machine a member has a key, or is open."""
+    with pytest.raises(ValueError):
+        asyncio.run(wb.Member.open(wb.Host(1, listen=0), **words))
 
 
 class Pipe:

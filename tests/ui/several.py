@@ -1,6 +1,7 @@
 """Several tabs of one member, two members of one number, and a program that ends and is started anew."""
 from __future__ import annotations
 
+import os
 import re
 import subprocess
 from pathlib import Path
@@ -28,7 +29,7 @@ def test_tabs(tally: Tally, browser: Browser, member: Member) -> None:
 def test_twin(tally: Tally, room: Path, browser: Browser, one: Sheet, member: Member, ports: int) -> None:
     """Another member with our number: the page goes on by a new one, and says so."""
     words = [str(TOP / "wb-live"), "--ports", str(ports), "--no-web", "--no-terminal", "--me", str(member.number), "--record", str(room / "twin.wb")]
-    twin = subprocess.Popen(words, cwd=room, stdin=subprocess.DEVNULL, stdout=subprocess.DEVNULL)
+    twin = subprocess.Popen(words, cwd=room, env={**os.environ, "XDG_STATE_HOME": str(room)}, stdin=subprocess.DEVNULL, stdout=subprocess.DEVNULL)
     try:
         one.page.value("localStorage.setItem('wb-name', 'Ada')")
         tally.check("a new number is taken", one.page.wait(f"wb.session.hello.me !== {member.number} && wb.session.hello.ready && document.getElementById('twin').hidden"))

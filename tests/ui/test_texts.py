@@ -44,7 +44,7 @@ TELLING = ("warn", "Refused", "CannotFollow", "NoPlace")
 TOLD = [*WHYS.values(), TWIN, *(text.format(origin="127.0.0.1:7", number=7) for text in WARNINGS.values()), NOTICE, NOTICE.replace("which is proved", "the program that WB_PROGRAM names"),
         UNPROVED + BESIDE, UNPROVED + ALONE, CHANGED, Stage("", False, fault="x").text(), Stage("", False, 5, 13, 12).progress(), Stage("", False, 5, 13, 12, "wb_board 34 of 128").progress(),
         "whole", "whole; nobody else is heard", "7 missing", "caught up 7 s ago", "busy", "this machine, port 1 of 1 to 32", "a class of its own", "the group 239.1.2.3:8000", "127.0.0.1:8000, with 3 peers", "the broker a.example, session monday, as anna",
-        "the broker a.example, session monday, sealed by a key", "the broker a.example does not answer: x"]
+        "the broker a.example, session monday, sealed by a key", "this machine, port 1 of 1 to 32, tagged by a key", "the broker a.example does not answer: x"]
 
 
 class Index(HTMLParser):

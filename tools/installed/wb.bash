@@ -20,7 +20,7 @@ _wb_live() {
     case $before in
         --record | --replay | --key | --new-key | --ca | --password-file) mapfile -t COMPREPLY < <(compgen -f -- "$word") ;;
         *) mapfile -t COMPREPLY < <(compgen -W '--help --lan --broker --password-file --ca --interface --listen --peer --ports --me --rate
-            --session --key --new-key --invite --page --web --guests --origin --new-address --no-web --terminal --no-terminal --open --record
+            --session --key --open --new-key --tag --invite --page --web --guests --origin --new-address --no-web --terminal --no-terminal --browser --record
             --forget --replay --cells --lose --delay --twice --mix --teach --speed' -- "$word") ;;
     esac
 }

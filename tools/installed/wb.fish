@@ -37,6 +37,8 @@ complete -c wb-live -f -l no-web
 complete -c wb-live -f -l terminal
 complete -c wb-live -f -l no-terminal
 complete -c wb-live -f -l open
+complete -c wb-live -f -l tag
+complete -c wb-live -f -l browser
 complete -c wb-live -f -l forget
 complete -c wb-live -f -l mix
 complete -c wb-live -f -l teach

@@ -3,10 +3,11 @@
 /** @typedef {object} Invitation
  * @property {string} session
  * @property {string} broker   a WebSocket's address; empty where the tabs of this browser are the session
- * @property {string} key      256 bits as base64url, or empty
+ * @property {string} key      256 bits as base64url, behind `tag.` if it tags, or empty
+ * @property {boolean} isOpen  it has no key on purpose
  * @property {Record<string, string>} more   how the network is made worse, for those who learn or test: lose, delay, twice, mix, teach */
 
-const KEPT = ['session', 'broker', 'key'];
+const KEPT = ['session', 'broker', 'key', 'open'];
 
 /** Characters of a session's name: what may stand in a topic without meaning something else there. */
 const NAME = /^[A-Za-z0-9._~-]{1,64}$/;
@@ -17,16 +18,19 @@ export function readInvitation(fragment) {
   if (!NAME.test(session)) throw new Error('the name of a session has up to 64 letters, digits, dots, dashes and underscores');
   const broker = words.get('broker') ?? '';
   if (broker && !/^wss?:$/.test(new URL(broker).protocol)) throw new Error('a broker has an address that begins with wss://');
+  const key = words.get('key') ?? '', isOpen = !key && words.has('open');
+  if (broker && !key && !isOpen) throw new Error('it has no key, and does not say that its board is open to everybody: open=yes');
   const more = Object.fromEntries([...words].filter(([name]) => !KEPT.includes(name)));
-  return { session, broker, key: words.get('key') ?? '', more };
+  return { session, broker, key, isOpen, more };
 }
 
 /** The fragment of an invitation, without what is for oneself alone.
- * @param {{ session: string, broker: string, key: string }} invitation */
-export function writeInvitation({ session, broker, key }) {
+ * @param {{ session: string, broker: string, key: string, isOpen?: boolean }} invitation */
+export function writeInvitation({ session, broker, key, isOpen }) {
   const words = new URLSearchParams({ session });
   if (broker) words.set('broker', broker);
   if (key) words.set('key', key);
+  else if (isOpen) words.set('open', 'yes');
   return `#${words}`;
 }
 

@@ -33,6 +33,7 @@ const GONE_AFTER = 60 * SECOND, GONE_AFTER_REPORTS = 3, LEAST_INTERVAL = 2 * SEC
 
 /** What stands on the member's side of its judging.
  * @typedef {object} Judged
+ * @property {boolean} isClosed   whether a key closes the session
  * @property {number} me
  * @property {boolean} isReady   whether it may draw
  * @property {import('./drawn.js').Drawn} drawn
@@ -153,10 +154,11 @@ export class Judging {
 
   // ---- who is there
 
-  /** The members that were heard lately.
+  /** The members that were heard lately. Under a key only those that have answered us: of others what was said before may be played once more.
    * @returns {[number, import('./heard.js').Other][]} */
   present() {
-    return this.heard.within(this.patience, this.member.board.now());
+    const present = this.heard.within(this.patience, this.member.board.now());
+    return this.member.isClosed ? present.filter(([, { answered }]) => answered !== null) : present;
   }
 
   /** The constants of the timers go by how many are heard. */

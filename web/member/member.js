@@ -69,6 +69,11 @@ export class Member {
     this.leaving = new Set();
   }
 
+  /** Whether a key closes the session. */
+  get isClosed() {
+    return this.transport.strangers === 0;
+  }
+
   /** Starts the host. */
   async open() {
     await this.board.open(this.me);
@@ -140,8 +145,9 @@ export class Member {
   take(bytes, origin) {
     const gone = readGone(bytes);
     if (!isAside(bytes)) this.inbox.take(bytes, origin);
-    else if (gone === null) this.presence.hear(bytes, this.me);
-    else {
+    else if (gone === null) {
+      if (!this.isClosed || this.judging?.heard.isMember(origin)) this.presence.hear(bytes, this.me);
+    } else {
       const left = this.transport.goneBy(gone, origin);
       if (left && !this.leaving.has(wordOf(left))) {
         this.leaving.add(wordOf(left));

@@ -93,9 +93,9 @@ export class Panel {
 
   /** Turns to a new session that a broker carries. */
   move() {
-    const broker = $('broker').value.trim(), key = canSeal() ? newKey() : '';
     try {
-      const fragment = writeInvitation({ session: newName(), broker, key });
+      if (!canSeal()) throw new Error('a key takes a page that came by https, or from this machine');
+      const fragment = writeInvitation({ session: newName(), broker: $('broker').value.trim(), key: newKey() });
       if (!readInvitation(fragment).broker) throw new Error('a broker has an address that begins with wss://');
       location.hash = fragment;
     } catch (fault) {

@@ -1,13 +1,21 @@
-/** The key of a session: each datagram is sealed by AES-256-GCM, with the session's name as what goes with it, as `live/carriers/sealed.py` does. */
+/** The key of a session: each datagram goes in an envelope that nobody makes without it. It seals by AES-256-GCM, with the session's name as what goes
+ * with it; or, with `tag.` before it, it tags by HMAC-SHA-256: nobody else writes, and all can read. `live/carriers/sealed.py` does the same. */
 import { writeGone } from './presence.js';
 
 /** @typedef {import('./origins.js').Origin} Origin */
 
-const NONCE = 12;
+const NONCE = 12, TAG = 16;
 
-/** @param {string} text base64url @returns {Uint8Array} */
+/** How the text of a key begins that tags. */
+const TAGS = 'tag.';
+
+/** Kinds of envelopes, by how they are closed. */
+const SEALED = 2, TAGGED = 3;
+
+/** @param {string} text base64url, with `tag.` before it if it tags @returns {Uint8Array} */
 export function keyBytes(text) {
-  const bytes = Uint8Array.from(atob(text.replaceAll('-', '+').replaceAll('_', '/')), (letter) => letter.charCodeAt(0));
+  const letters = text.startsWith(TAGS) ? text.slice(TAGS.length) : text;
+  const bytes = Uint8Array.from(atob(letters.replaceAll('-', '+').replaceAll('_', '/')), (letter) => letter.charCodeAt(0));
   if (bytes.length !== 32) throw new Error('a key has 32 bytes');
   return bytes;
 }
@@ -18,66 +26,91 @@ export function newKey() {
   return btoa(letters).replaceAll('+', '-').replaceAll('/', '_').replaceAll('=', '');
 }
 
-/** Whether this page may seal: browsers let only pages that came safely do so. */
+/** Whether this page may close by a key: browsers let only pages that came safely do so. */
 export const canSeal = () => Boolean(globalThis.crypto?.subtle);
 
 export class Seal {
-  /** @param {CryptoKey} key @param {string} session */
-  constructor(key, session) {
+  /** @param {CryptoKey} key of AES-GCM @param {CryptoKey} mac of HMAC @param {string} session @param {boolean} tags whether it tags */
+  constructor(key, mac, session, tags) {
     this.key = key;
+    this.mac = mac;
+    this.tags = tags;
+    this.kind = tags ? TAGGED : SEALED;
     this.more = new TextEncoder().encode(session);
   }
 
-  /** @param {string} key base64url @param {string} session */
+  /** @param {string} key @param {string} session */
   static async of(key, session) {
     if (!canSeal()) throw new Error('a key takes a page that came by https, or from this machine');
-    return new Seal(await crypto.subtle.importKey('raw', keyBytes(key), 'AES-GCM', false, ['encrypt', 'decrypt']), session);
+    const bytes = keyBytes(key), { subtle } = crypto;
+    const mac = await subtle.importKey('raw', bytes, { name: 'HMAC', hash: 'SHA-256' }, false, ['sign']);
+    return new Seal(await subtle.importKey('raw', bytes, 'AES-GCM', false, ['encrypt', 'decrypt']), mac, session, key.startsWith(TAGS));
   }
 
-  /** Sealed bytes: a nonce, and then the ciphertext.
+  /** Closed bytes: a nonce and then the ciphertext, or the bytes and then their tag.
    * @param {Uint8Array} plain @param {Uint8Array} [iv] the nonce, which is random */
   async close(plain, iv = crypto.getRandomValues(new Uint8Array(NONCE))) {
-    const closed = await crypto.subtle.encrypt({ name: 'AES-GCM', iv, additionalData: this.more }, this.key, plain);
-    const sealed = new Uint8Array(NONCE + closed.byteLength);
-    sealed.set(iv);
-    sealed.set(new Uint8Array(closed), NONCE);
-    return sealed;
+    if (this.tags) return joined(plain, await this.tagOf(plain));
+    return joined(iv, new Uint8Array(await crypto.subtle.encrypt({ name: 'AES-GCM', iv, additionalData: this.more }, this.key, plain)));
   }
 
-  /** What sealed bytes seal, or null where they were not sealed by this key for this session.
-   * @param {Uint8Array} sealed */
-  async open(sealed) {
+  /** The tag of bytes with which nothing else goes: behind the session's name a byte 0, and how many bytes that is.
+   * @param {Uint8Array} plain */
+  async tagOf(plain) {
+    return new Uint8Array(await crypto.subtle.sign('HMAC', this.mac, joined(this.more, new Uint8Array(2), plain))).subarray(0, TAG);
+  }
+
+  /** What closed bytes have, and how they are closed, or null where they were not closed by this key for this session.
+   * @param {Uint8Array} closed */
+  async open(closed) {
+    const plain = closed[0] === TAGGED && closed.length > TAG ? closed.subarray(0, -TAG) : null;
+    if (plain && isSame(await this.tagOf(plain), closed.subarray(-TAG))) return { plain, kind: TAGGED };
     try {
-      const how = { name: 'AES-GCM', iv: sealed.subarray(0, NONCE), additionalData: this.more };
-      return new Uint8Array(await crypto.subtle.decrypt(how, this.key, sealed.subarray(NONCE)));
+      const how = { name: 'AES-GCM', iv: closed.subarray(0, NONCE), additionalData: this.more };
+      return { plain: new Uint8Array(await crypto.subtle.decrypt(how, this.key, closed.subarray(NONCE))), kind: SEALED };
     } catch {
       return null;
     }
   }
 }
 
-// ---- what is sealed
+/** @param {Uint8Array[]} parts */
+function joined(...parts) {
+  const made = new Uint8Array(parts.reduce((size, part) => size + part.length, 0));
+  let at = 0;
+  for (const part of parts) {
+    made.set(part, at);
+    at += part.length;
+  }
+  return made;
+}
 
-/** The version of what is sealed, and its bytes before the datagram: the version, the tag of a start, and the counter. */
-const VERSION = 2, BEFORE = 17;
+/** Whether two tags are the same, in a time that does not tell where they part.
+ * @param {Uint8Array} one @param {Uint8Array} other */
+const isSame = (one, other) => one.reduce((differs, byte, i) => differs | (byte ^ other[i]), 0) === 0;
+
+// ---- what is closed
+
+/** Bytes of an envelope before the datagram: its kind, the tag of a start, and the counter. */
+const BEFORE = 17;
 
 /** A tag that no other start has: sixteen letters, of a number below 2^63. */
 export const newTag = () => BigInt.asUintN(63, crypto.getRandomValues(new BigUint64Array(1))[0]).toString(16).padStart(16, '0');
 
-/** @param {string} tag @param {bigint} counter @param {Uint8Array} bytes */
-export function writeEnvelope(tag, counter, bytes) {
+/** @param {string} tag @param {bigint} counter @param {Uint8Array} bytes @param {number} [kind] */
+export function writeEnvelope(tag, counter, bytes, kind = SEALED) {
   const plain = new Uint8Array(BEFORE + bytes.length), view = new DataView(plain.buffer);
-  plain[0] = VERSION;
+  plain[0] = kind;
   view.setBigUint64(1, BigInt(`0x${tag}`));
   view.setBigUint64(9, counter);
   plain.set(bytes, BEFORE);
   return plain;
 }
 
-/** The tag, the counter and the datagram of what was sealed, or null where it has another version: 0.1.0 sealed the datagram alone.
- * @param {Uint8Array} plain */
-export function readEnvelope(plain) {
-  if (plain.length < BEFORE || plain[0] !== VERSION) return null;
+/** The tag, the counter and the datagram of what was closed, or null where it says that it is closed in another way: 0.1.0 sealed the datagram alone.
+ * @param {Uint8Array} plain @param {number} [kind] how it was closed */
+export function readEnvelope(plain, kind = SEALED) {
+  if (plain.length < BEFORE || plain[0] !== kind) return null;
   const view = new DataView(plain.buffer, plain.byteOffset), tag = BigInt.asUintN(63, view.getBigUint64(1)).toString(16).padStart(16, '0');
   return { tag, counter: view.getBigUint64(9), bytes: plain.subarray(BEFORE) };
 }
@@ -115,7 +148,7 @@ export class Counters {
   }
 }
 
-/** A transport whose datagrams are sealed, each with the tag of this start and a counter. Where one comes from is its tag. What does not open is
+/** A transport whose datagrams a key closes, each with the tag of this start and a counter. Where one comes from is its tag. What does not open is
  * dropped and counted, and what came before is dropped. */
 export class Sealed {
   /** @param {Seal} seal @param {import('./transports.js').Take} take */
@@ -132,7 +165,7 @@ export class Sealed {
   }
 
   get where() {
-    return `${this.under?.where}, sealed by the key of the invitation`;
+    return `${this.under?.where}, ${this.seal.tags ? 'tagged' : 'sealed'} by the key of the invitation`;
   }
 
   get state() {
@@ -145,7 +178,7 @@ export class Sealed {
 
   /** @param {Uint8Array} sealed @param {Origin} origin */
   async take(sealed, { owner }) {
-    const plain = await this.seal.open(sealed), told = plain && readEnvelope(plain);
+    const opened = await this.seal.open(sealed), told = opened && readEnvelope(opened.plain, opened.kind);
     if (!told) this.foreign += 1;
     else if (told.tag !== this.tag && this.counters.takes(told.tag, told.counter)) this.hand(told.bytes, originOf(told.tag, owner));
   }
@@ -153,12 +186,12 @@ export class Sealed {
   /** @param {Uint8Array} bytes */
   async send(bytes) {
     this.counter += 1n;
-    this.under?.send(await this.seal.close(writeEnvelope(this.tag, this.counter, bytes)));
+    this.under?.send(await this.seal.close(writeEnvelope(this.tag, this.counter, bytes, this.seal.kind)));
   }
 
   /** The last will: it tells our tag, and has another, since by the time that it comes our counter has gone on. */
   will() {
-    return this.seal.close(writeEnvelope(newTag(), 1n, writeGone(this.tag)));
+    return this.seal.close(writeEnvelope(newTag(), 1n, writeGone(this.tag), this.seal.kind));
   }
 
   /** @param {string} tag @param {Origin} origin */
