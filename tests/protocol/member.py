@@ -61,6 +61,7 @@ class Member:
         self.whole: dict[tuple[Page, int], int] = {}  # of a source on a page all numbers up to this are held
         self.requests: dict[Name, RequestTimer] = {}
         self.repairs: dict[Name, RepairTimer] = {}
+        self.turn = Name(-1, Page(-1, 0), 0)  # the name whose old timer started anew last
         self.held_down: dict[Name, int] = {}
         self.delays: dict[int, int] = {}
         self.heard: dict[int, tuple[int, int]] = {}  # the moment that a member's last session message named, and when it came
@@ -225,6 +226,13 @@ class Member:
                 if name not in self.requests and len(self.requests) < MOST_TIMERS:
                     self.set_request(now, name, 0, self.delay(source))
 
+    def take_turn(self, now: int) -> None:
+        """Starts one old timer anew, each in turn: who has asked in vain for long does not wait for hours."""
+        old = sorted(name for name, timer in self.requests.items() if timer.level >= OLD_LEVEL)
+        if old:
+            self.turn = next((it for it in old if it > self.turn), old[0])
+            self.set_request(now, self.turn, 0, self.delay(self.turn.source))
+
     def draw(self, now: int, page: Page, operation: Operation) -> bytes:
         """A new drawop of this member. None while it listens."""
         assert now >= self.listens_until, "it listens"
@@ -266,6 +274,7 @@ class Member:
             members = 1 + sum(now - came <= HEARD for _, came in self.heard.values())
             mean = min(max(members * len(codec.write(report)) * SECOND // RATE, SHORTEST), LONGEST)
             self.report_at = now + mean // 2 + self.chance(mean)
+            self.take_turn(now)
             sent.append(report)
         return [codec.write(it) for it in sent]
 
