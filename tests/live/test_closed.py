@@ -133,7 +133,7 @@ def test_another_user(facts: Facts, home: Dict[str, str]) -> None:
             facts("the other user's key is his own", (Path(folder) / "wb/key").stat().st_uid, NOBODY)
             facts("both draw", [each.draw("1/1", "line 0 0 3 0 %s" % glyph)[0] for each, glyph in ((ours, "a"), (theirs, "b"))], [200, 200])
             facts("and hear what they can't read", [foreign(each, 2) for each in (ours, theirs)], [True, True])
-            shown = [each.wait_for(lambda states, row=row: states["board"]["rows"] == [row]) for each, row in ((ours, "aaaa"), (theirs, "bbbb"))]
+            shown = [ours.wait_for(lambda states: states["board"]["rows"] == ["aaaa"]), theirs.wait_for(lambda states: states["board"]["rows"] == ["bbbb"])]
             time.sleep(1)
             facts("nobody is heard, and each page is its own", ([heard(each) for each in (ours, theirs)], shown, ours.rows("1/1"), theirs.rows("1/1")), ([[], []], [True, True], ["aaaa"], ["bbbb"]))
             read = subprocess.run([sys.executable, "-c", "open(%r)" % (home["XDG_STATE_HOME"] + "/wb/key")], preexec_fn=become_nobody, capture_output=True, text=True, check=False)
