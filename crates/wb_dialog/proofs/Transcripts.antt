@@ -1,5 +1,5 @@
 -- What a driver of lines makes of a dialog is the transcript of its input.
-use Rattle.std.proofs.Common.{◌≡◌, ℕ, ◌+◌, Bool, true, false, List, [], ◌∷◌, ◌++◌, Result, Ok, Err, inl, inr, refl, sym, ap, subst, ◌∙◌, rules}
+use Rattle.std.proofs.Common.{◌≡◌, ℕ, ◌+◌, Bool, true, false, List, [], ◌∷◌, ◌++◌, None, Result, Ok, Err, inl, inr, refl, sym, ap, subst, ◌∙◌, rules}
 use Rattle.std.proofs.Common.{◌<◌, ◌≤◌, ◌⊎◌, arith, length, Contains}
 use Rattle.std.proofs.lemmas.Bool.Decides.{nat_tests}
 use Rattle.std.specs.Prelude.{nat_lt, if◌then◌else◌}
@@ -18,7 +18,7 @@ use Rattle.wb_dialog.proofs.Fronts.{begins_all, begins_empty, begins_behind, beg
 use Rattle.wb_dialog.specs.Dialog.{answered_lines}
 use Rattle.wb_dialog.specs.Hosting.{IsEndless}
 use Rattle.wb_dialog.specs.Kinds.{Standing, step, unopened, transcript, block_of, response_of, after, blocks_from}
-use Rattle.wb_dialog.specs.Doing.{fault_of, Writes}
+use Rattle.wb_dialog.specs.Doing.{DialogValue, IsAt, fault_of, Writes}
 
 -- ---- outcomes
 
@@ -100,6 +100,13 @@ Hosts-stop text written cut (Err (faults.Line n f)) stops b = absurd stops
 pub Hosts-meets : (text written : List ℕ) (cut : Bool) (o : Outcome Infallible) (result : Result ℕ (DriveFault Infallible)) → Tells text cut o → Meets o written result → Hosts text cut written result
 Hosts-meets text written cut (writes t end) result tells (inl m) = subst (Hosts text cut written) (sym m.1) (Hosts-end text written t cut end tells m.0)
 Hosts-meets text written cut (writes t end) result tells (inr m) = Hosts-stop text written cut result m.0 (begins_front text t written (tells_front text t cut end tells) m.1)
+
+-- A dialog without a host stands where no board is open.
+pub begins_at : (tuning : Tuning) (d : DialogValue) → d ≡ record { tuning = tuning; host = None } → IsAt d (unopened tuning)
+begins_at tuning d is = subst (λ (e : DialogValue). IsAt e (unopened tuning)) (sym is) (record { tuning = refl; kind = tt })
+
+pub ends_well : {X : Type 0} (fault : HostFault) → ◌≡◌ {A = Result (Unit {0}) HostFault} (Ok tt) (Err fault) → X
+ends_well fault e = absurd cc
 
 -- What a driver wrote for the lines of an input is what a host writes of its transcript.
 pub hosts_transcript : (tuning : Tuning) (most : ℕ) (cut : Bool) (input written : List ℕ) (result : Result ℕ (DriveFault Infallible)) → Meets (outcome (rules_of step most) cut (unopened tuning) input) written result → Hosts (transcript tuning cut input) cut written result
