@@ -9,7 +9,7 @@ use Rattle.clap.specs.declared.error.Error.{Error}
 use Rattle.clap.specs.declared.error.kind.ErrorKind.{ErrorKind}
 use Rattle.clap.specs.declared.error.kind.ErrorKind.TheVariants.{OutOfMemory}
 use Rattle.wb_recovery.specs.declared.tuning.Tuning.{Tuning}
-use Rattle.wb.specs.CommandLine.{Asks, IsAsked, IsFound, IsNumberIn, IsTuningIn, name_of, SaysNumber, SaysTuning, command_line}
+use Rattle.wb.specs.CommandLine.{AsksTask, IsAsked, IsTaskFound, IsNumberIn, IsTuningIn, filter_name, SaysNumber, SaysTuning, command_line}
 use Rattle.wb.specs.declared.command.Task.{Task}
 use Rattle.wb.specs.declared.command.Task.TheVariants as tasks
 use Rattle.wb_filters.specs.declared.filtering.Direction.{Direction}
@@ -36,21 +36,21 @@ command_line_is_free = refl
 -- What was found of a command that is the program's is what the words ask for.
 pub asks : (a : App) (words : List Text) (found : Option (Text × List Row)) → a ≡ command_line
     → (is_simple_and_free a ≡ true → fault_of a words ≡ []) → (is_simple a ≡ true → found ≡ subcommand_of a words)
-    → (task : Task) → IsFound found task → Asks words task
+    → (task : Task) → IsTaskFound found task → AsksTask words task
 asks a words found is free simple task h =
     let none : fault_of command_line words ≡ [] = subst (λ (b : App). is_simple_and_free b ≡ true → fault_of b words ≡ []) is free command_line_is_free in
     let same : found ≡ subcommand_of command_line words = subst (λ (b : App). is_simple b ≡ true → found ≡ subcommand_of b words) is simple command_line_is_simple in
-    (none, subst (λ (o : Option (Text × List Row)). IsFound o task) same h)
+    (none, subst (λ (o : Option (Text × List Row)). IsTaskFound o task) same h)
 
 pub asks_nothing : (a : App) (words : List Text) (found : Option (Text × List Row)) → a ≡ command_line
     → (is_simple a ≡ true → found ≡ subcommand_of a words)
-    → ((task : Task) → IsFound found task → ⊥) → (task : Task) → Asks words task → ⊥
+    → ((task : Task) → IsTaskFound found task → ⊥) → (task : Task) → AsksTask words task → ⊥
 asks_nothing a words found is simple none task h =
     let same : found ≡ subcommand_of command_line words = subst (λ (b : App). is_simple b ≡ true → found ≡ subcommand_of b words) is simple command_line_is_simple in
-    none task (subst (λ (o : Option (Text × List Row)). IsFound o task) (sym same) h.1)
+    none task (subst (λ (o : Option (Text × List Row)). IsTaskFound o task) (sym same) h.1)
 
 -- no command was found
-pub none_found : {X : Type 0} (f : X → Text × List Row) (o : Option X) → false ≡ is_some o → (task : Task) → IsFound (option_map f o) task → ⊥
+pub none_found : {X : Type 0} (f : X → Text × List Row) (o : Option X) → false ≡ is_some o → (task : Task) → IsTaskFound (option_map f o) task → ⊥
 none_found f None e task h = h
 none_found f (Some x) e task h = cc
 
@@ -60,7 +60,7 @@ none_among kinds k none among = subst (λ (ks : Kinds). IsAmong k ks) none among
 -- The parser refuses only words that ask for nothing.
 pub refuses : (a : App) (words : List Text) (e : Error) → a ≡ command_line
     → (is_simple_and_free a ≡ true → HasKind (fault_of a words) e)
-    → (kind_of e ≡ OutOfMemory) ⊎ ((task : Task) → Asks words task → ⊥)
+    → (kind_of e ≡ OutOfMemory) ⊎ ((task : Task) → AsksTask words task → ⊥)
 refuses a words e is free =
     elim (subst (λ (b : App). is_simple_and_free b ≡ true → HasKind (fault_of b words) e) is free command_line_is_free) [
       | inl memory ↦ inl memory
@@ -103,7 +103,7 @@ no_tuning_in G (Some u) e t says none some h = says u t (some u refl) h
 first_differs : (a b : Text) (m n : ℕ) → slice_index a 0 ≡ m → slice_index b 0 ≡ n → (m ≡ n → ⊥) → a ≡ b → ⊥
 first_differs a b m n one other apart e = apart (sym one ∙ ap (λ (t : Text). slice_index t 0) e ∙ other)
 
-host_is_no_direction : (d : Direction) → codes "host" ≡ name_of d → ⊥
+host_is_no_direction : (d : Direction) → codes "host" ≡ filter_name d → ⊥
 host_is_no_direction Hex e = let bad = ap (λ (t : Text). slice_index t 1) e in absurd (omega (arith, bad))
 host_is_no_direction Words e = first_differs (codes "host") (codes "words") 104 119 refl refl (λ n. absurd (omega (arith, n))) e
 
@@ -114,7 +114,7 @@ no_host rows none tasks.Check h = first_differs (codes "host") (codes "check") 1
 no_host rows none (tasks.Turn filter) h = host_is_no_direction filter.direction h.0
 no_host rows none (tasks.Host t) h = none t h.1
 
-turns_nothing : (name : Text) (d : Direction) → name ≢ codes "hex" → name ≢ codes "words" → name ≡ name_of d → ⊥
+turns_nothing : (name : Text) (d : Direction) → name ≢ codes "hex" → name ≢ codes "words" → name ≡ filter_name d → ⊥
 turns_nothing name Hex hex words e = hex e
 turns_nothing name Words hex words e = words e
 

@@ -13,7 +13,7 @@ use Rattle.wb_filters.specs.Comments.{fault_text}
 use Rattle.wb_filters.specs.declared.fault.LineFault.{LineFault}
 use Rattle.wb_dialog.specs.declared.fault.HostFault.{HostFault}
 use Rattle.wb_dialog.specs.declared.fault.HostFault.TheVariants as host_faults
-use Rattle.wb.specs.CommandLine.{Asks}
+use Rattle.wb.specs.CommandLine.{AsksTask}
 use Rattle.wb.specs.Serving.{as_task, ended_status, failure_status, filter_status, filter_text, host_status, run_status}
 use Rattle.wb.specs.declared.command.Task.{Task}
 use Rattle.wb.specs.declared.serving.Failure.{Failure}
@@ -53,8 +53,8 @@ fails (failures.Host fault) e = host_fails fault e
 
 -- why nothing was done
 pub reason : (words : List Text) (error : Error) (status : ℕ) → (status ≡ 4) ⊎ ((status ≡ 2) × (kind_of error ≡ OutOfMemory → ⊥))
-    → (kind_of error ≡ OutOfMemory) ⊎ ((task : Task) → Asks words task → ⊥)
-    → (status ≡ 4) ⊎ ((status ≡ 2) × ((task : Task) → Asks words task → ⊥))
+    → (kind_of error ≡ OutOfMemory) ⊎ ((task : Task) → AsksTask words task → ⊥)
+    → (status ≡ 4) ⊎ ((status ≡ 2) × ((task : Task) → AsksTask words task → ⊥))
 reason words error status (inl four) refused = inl four
 reason words error status (inr two) (inl memory) = absurd (two.1 memory)
 reason words error status (inr two) (inr none) = inr (two.0, none)

@@ -101,22 +101,22 @@ abbrev pub IsTuningIn : Option Text → Tuning → Type 0
 IsTuningIn None t = t ≡ record { c1 = 2; c2 = 2; d1 = 1; d2 = 1 }
 IsTuningIn (Some text) t = SaysTuning text t
 
-abbrev pub name_of : Direction → Text
-name_of Hex = codes "hex"
-name_of Words = codes "words"
+abbrev pub filter_name : Direction → Text
+filter_name Hex = codes "hex"
+filter_name Words = codes "words"
 
 -- A command, with what was found of its options, asks for a task.
 abbrev pub IsAsked : Text → List Row → Task → Type 0
 IsAsked name rows (tasks.Run workers) = (name ≡ codes "run") × IsNumberIn (one_of (codes "workers") rows) workers
 IsAsked name rows tasks.Check = name ≡ codes "check"
-IsAsked name rows (tasks.Turn filter) = (name ≡ name_of filter.direction) × IsFlagIn (one_of (codes "keep-going") rows) filter.keeps_going
+IsAsked name rows (tasks.Turn filter) = (name ≡ filter_name filter.direction) × IsFlagIn (one_of (codes "keep-going") rows) filter.keeps_going
 IsAsked name rows (tasks.Host tuning) = (name ≡ codes "host") × IsTuningIn (one_of (codes "tuning") rows) tuning
 
 -- A command was found, which asks for a task.
-abbrev pub IsFound : Option (Text × List Row) → Task → Type 0
-IsFound None task = ⊥
-IsFound (Some found) task = IsAsked found.0 found.1 task
+abbrev pub IsTaskFound : Option (Text × List Row) → Task → Type 0
+IsTaskFound None task = ⊥
+IsTaskFound (Some found) task = IsAsked found.0 found.1 task
 
 -- The words after the program's name ask for a task: clap finds no fault in them, and a command.
-abbrev pub Asks : List Text → Task → Type 0
-Asks words task = (fault_of command_line words ≡ []) × IsFound (subcommand_of command_line words) task
+abbrev pub AsksTask : List Text → Task → Type 0
+AsksTask words task = (fault_of command_line words ≡ []) × IsTaskFound (subcommand_of command_line words) task

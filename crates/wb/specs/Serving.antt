@@ -8,14 +8,14 @@ use Rattle.wb_lines.specs.Driving.{Gave, Meets}
 use Rattle.wb_lines.specs.Input.{BeginsWith, input_lines}
 use Rattle.wb_lines.specs.declared.fault.DriveFault.{DriveFault}
 use Rattle.wb_lines.specs.declared.fault.DriveFault.TheVariants as filter_faults
-use Rattle.wb_script.specs.Runs.{Runs}
+use Rattle.wb_script.specs.Runs.{RunsScript}
 use Rattle.wb_script.specs.Checking.{Checks}
 use Rattle.wb_script.specs.Faults.{run_text}
 use Rattle.wb_script.specs.declared.fault.RunFault.{RunFault}
 use Rattle.wb_script.specs.declared.fault.RunFault.TheVariants as run_faults
 use Rattle.wb_script.specs.declared.running.Summary.{Summary}
 use Rattle.wb_filters.specs.Comments.{fault_text}
-use Rattle.wb_filters.specs.Filtering.{outcome}
+use Rattle.wb_filters.specs.Filtering.{filter_outcome}
 use Rattle.wb_filters.specs.declared.fault.LineFault.{LineFault}
 use Rattle.wb_dialog.specs.Doing.{Writes}
 use Rattle.wb_dialog.specs.Hosting.{IsEndless}
@@ -24,7 +24,7 @@ use Rattle.wb_dialog.specs.Refusals.{host_text}
 use Rattle.wb_dialog.specs.declared.fault.HostFault.{HostFault}
 use Rattle.wb_dialog.specs.declared.fault.HostFault.TheVariants as host_faults
 use Rattle.clap.specs.Words.{Text}
-use Rattle.wb.specs.CommandLine.{Asks}
+use Rattle.wb.specs.CommandLine.{AsksTask}
 use Rattle.wb.specs.declared.command.Task.{Task}
 use Rattle.wb.specs.declared.command.Task.TheVariants as tasks
 use Rattle.wb.specs.declared.serving.Failure.{Failure}
@@ -76,24 +76,24 @@ abbrev pub approval : ℕ → List ℕ
 approval lines = codes "ok " ++ (decimal lines ++ codes "\n")
 
 -- A text is written; or a front of it, if the sink fails or memory runs out.
-abbrev pub IsWritten : {U : Type 0} → List ℕ → List ℕ → Result U RunFault → Type 0
-IsWritten text written (Ok u) = written ≡ text
-IsWritten text written (Err fault) = BeginsWith text written × ((fault ≡ run_faults.Write) ⊎ (fault ≡ run_faults.Memory))
+abbrev pub IsTextWritten : {U : Type 0} → List ℕ → List ℕ → Result U RunFault → Type 0
+IsTextWritten text written (Ok u) = written ≡ text
+IsTextWritten text written (Err fault) = BeginsWith text written × ((fault ≡ run_faults.Write) ⊎ (fault ≡ run_faults.Memory))
 
 -- A check that counted lines writes how many, and another nothing. So it ends.
 abbrev pub Approves : {U : Type 0} → Result ℕ RunFault → List ℕ → Result U RunFault → Type 0
-Approves (Ok lines) written ended = IsWritten (approval lines) written ended
+Approves (Ok lines) written ended = IsTextWritten (approval lines) written ended
 Approves (Err fault) written ended = (written ≡ []) × (ended ≡ Err fault)
 
 -- Of an input, which is cut off if reading fails after it, a task wrote this, and so it ended.
-abbrev pub Performs : Task → Bool → List ℕ → List ℕ → Result (Unit {0}) Failure → Type 0
-Performs (tasks.Run workers) cut input written ended =
-    (r : Result Summary RunFault) × Runs workers cut input written r × (ended ≡ as_task failures.Run r)
-Performs tasks.Check cut input written ended =
+abbrev pub PerformsTask : Task → Bool → List ℕ → List ℕ → Result (Unit {0}) Failure → Type 0
+PerformsTask (tasks.Run workers) cut input written ended =
+    (r : Result Summary RunFault) × RunsScript workers cut input written r × (ended ≡ as_task failures.Run r)
+PerformsTask tasks.Check cut input written ended =
     (r : Result ℕ RunFault) × Checks cut input r × ((end : Result (Unit {0}) RunFault) × Approves r written end × (ended ≡ as_task failures.Run end))
-Performs (tasks.Turn filter) cut input written ended =
-    (r : Result ℕ (DriveFault LineFault)) × Meets (outcome filter cut input) written r × (ended ≡ as_task failures.Filter r)
-Performs (tasks.Host tuning) cut input written ended =
+PerformsTask (tasks.Turn filter) cut input written ended =
+    (r : Result ℕ (DriveFault LineFault)) × Meets (filter_outcome filter cut input) written r × (ended ≡ as_task failures.Filter r)
+PerformsTask (tasks.Host tuning) cut input written ended =
     (r : Result (Unit {0}) HostFault) × Writes (transcript tuning cut input) written r
     × (r ≡ Err host_faults.Endless → IsEndless (2 ^ 64 - 1) (input_lines input)) × (ended ≡ as_task failures.Host r)
 
@@ -106,8 +106,8 @@ pub record Reading : Type 0 where
   pub has_failed : Bool
 
 -- what a call read, by its source before and after
-abbrev pub reading : {R : Type 0} → SourceOf R → R → R → Reading
-reading R old new = record { left = R.left old; rest = R.left new; has_failed = R.has_failed new }
+abbrev pub reading_between : {R : Type 0} → SourceOf R → R → R → Reading
+reading_between R old new = record { left = R.left old; rest = R.left new; has_failed = R.has_failed new }
 
 -- what a sink has taken before and after, and whether it has failed then
 pub record Writing : Type 0 where
@@ -116,13 +116,13 @@ pub record Writing : Type 0 where
   pub has_failed : Bool
 
 -- what a call wrote, by its sink before and after
-abbrev pub writing : {W : Type 0} → SinkOf W → W → W → Writing
-writing W old new = record { before = W.taken old; after = W.taken new; has_failed = W.has_failed new }
+abbrev pub writing_between : {W : Type 0} → SinkOf W → W → W → Writing
+writing_between W old new = record { before = W.taken old; after = W.taken new; has_failed = W.has_failed new }
 
 -- ---- lines about failures
 
 -- A sink took a text, or, since it has failed, a front of it.
-pub record Says (sink : Writing) (text : List ℕ) : Type 0 where
+pub record TookText (sink : Writing) (text : List ℕ) : Type 0 where
   pub written : List ℕ
   pub took : Appends sink.before sink.after written
   pub front : BeginsWith text written
@@ -151,7 +151,7 @@ no_memory = codes "wb: memory\n"
 -- If all was done, nothing is written; else the line about the failure, or that there was no memory for it.
 abbrev pub Explains : Result (Unit {0}) Failure → Writing → Type 0
 Explains (Ok u) errors = errors.after ≡ errors.before
-Explains (Err failure) errors = Says errors (complaint failure) ⊎ Says errors no_memory
+Explains (Err failure) errors = TookText errors (complaint failure) ⊎ TookText errors no_memory
 
 -- the line about a word of the command line that is no text
 abbrev pub not_text : List ℕ
@@ -161,28 +161,28 @@ not_text = codes "wb: a word of the command line is not UTF-8\n"
 
 -- A task was performed between a source and a sink: it read an input, wrote what it performs of that, and ended so. Its status is 3 only
 -- if an end has failed.
-pub record Performed (task : Task) (source : Reading) (sink : Writing) (ended : Result (Unit {0}) Failure) : Type 0 where
+pub record PerformedTask (task : Task) (source : Reading) (sink : Writing) (ended : Result (Unit {0}) Failure) : Type 0 where
   pub input : List ℕ
   pub written : List ℕ
   pub read : Gave source.left source.rest source.has_failed input
   pub wrote : Appends sink.before sink.after written
-  pub answered : Performs task source.has_failed input written ended
+  pub answered : PerformsTask task source.has_failed input written ended
   pub failed : ended_status ended ≡ 3 → (source.has_failed ≡ true) ⊎ (sink.has_failed ≡ true)
 
 -- So it was, the second output says why it ended so, and the status tells it.
 pub record Served (task : Task) (source : Reading) (sink errors : Writing) (status : ℕ) : Type 0 where
   pub ended : Result (Unit {0}) Failure
-  pub performed : Performed task source sink ended
+  pub performed : PerformedTask task source sink ended
   pub explained : Explains ended errors
   pub answered : status ≡ ended_status ended
 
 -- Nothing was read or written, since an allocation failed (4), which the second output says, or the words ask for no task (2).
-pub record IsIdle (words : List Text) (source : Reading) (sink errors : Writing) (status : ℕ) : Type 0 where
+pub record DidNothing (words : List Text) (source : Reading) (sink errors : Writing) (status : ℕ) : Type 0 where
   pub unread : source.rest ≡ source.left
   pub unwritten : sink.after ≡ sink.before
-  pub reason : (status ≡ 4) ⊎ ((status ≡ 2) × ((task : Task) → Asks words task → ⊥))
-  pub said : status ≡ 4 → Says errors no_memory
+  pub reason : (status ≡ 4) ⊎ ((status ≡ 2) × ((task : Task) → AsksTask words task → ⊥))
+  pub said : status ≡ 4 → TookText errors no_memory
 
 -- The task that the words ask for was performed, or nothing was read or written.
-abbrev pub Serves : List Text → Reading → Writing → Writing → ℕ → Type 0
-Serves words source sink errors status = ((task : Task) × Asks words task × Served task source sink errors status) ⊎ IsIdle words source sink errors status
+abbrev pub ServesWords : List Text → Reading → Writing → Writing → ℕ → Type 0
+ServesWords words source sink errors status = ((task : Task) × AsksTask words task × Served task source sink errors status) ⊎ DidNothing words source sink errors status

@@ -1,7 +1,7 @@
 //! The words of the command line.
 ghost use Rattle.std.specs.Prelude.{◌≡◌, ◌⊎◌, map, codes, IfOk, IfErr, OnErr, MatchResult};
 ghost use Rattle.clap.specs.Words.{App, found_of, kind_of, new_app, rows_of, subcommand_rows_of, with_subcommand};
-ghost use Rattle.wb.specs.CommandLine.{Asks, IsAsked, IsFound, IsMade, bare_app, command_line, filter_app, host_app, name_of, run_app};
+ghost use Rattle.wb.specs.CommandLine.{AsksTask, IsAsked, IsTaskFound, IsMade, bare_app, command_line, filter_app, host_app, filter_name, run_app};
 
 use crate::constants::{Constants, WrongConstants};
 use clap::error::ErrorKind;
@@ -254,7 +254,7 @@ fn run_task<'a>(options: &ArgMatches<'a>) -> Task
 
 /// The task of a filter.
 fn filter_task<'a>(direction: Direction, options: &ArgMatches<'a>) -> Task
-    ensures { IsAsked (name_of direction) (rows_of (found_of options.now)) result }
+    ensures { IsAsked (filter_name direction) (rows_of (found_of options.now)) result }
 {
     Task::Turn(Filter {
         direction,
@@ -297,9 +297,9 @@ fn named_task<'a>(name: &str, options: &ArgMatches<'a>) -> Result<Task, (ErrorKi
 
 /// The task that what was found of the words asks for; or why they ask for none.
 fn found_task<'a>(matches: &ArgMatches<'a>) -> Result<Task, (ErrorKind, &'static str)>
-    ensures asked { IfOk result (IsFound (subcommand_rows_of matches.now)) }
+    ensures asked { IfOk result (IsTaskFound (subcommand_rows_of matches.now)) }
     ensures refused { OnErr result
-        ((task : Task) → IsFound (subcommand_rows_of matches.now) task → ⊥) }
+        ((task : Task) → IsTaskFound (subcommand_rows_of matches.now) task → ⊥) }
 {
     match matches.subcommand() {
         Some((name, options)) => named_task(name, options),
@@ -310,9 +310,9 @@ fn found_task<'a>(matches: &ArgMatches<'a>) -> Result<Task, (ErrorKind, &'static
 /// The task that the words after the program's name ask for. The error has the parser's text: of
 /// help, if it was asked for, or else of what is wrong with the words.
 pub fn task_of<'a>(alloc: Global, words: &'a [&'a str]) -> Result<Task, Error>
-    ensures asked { IfOk result (Asks (map (λ word. word.now) words.entry.now)) }
+    ensures asked { IfOk result (AsksTask (map (λ word. word.now) words.entry.now)) }
     ensures refused { IfErr result (λ e. (kind_of e ≡ ErrorKind.OutOfMemory)
-        ⊎ ((task : Task) → Asks (map (λ word. word.now) words.entry.now) task → ⊥)) }
+        ⊎ ((task : Task) → AsksTask (map (λ word. word.now) words.entry.now) task → ⊥)) }
 {
     let mut program = command(alloc)?;
     let matches = program.try_get_matches_from_mut(words)?;

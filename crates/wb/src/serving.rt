@@ -5,7 +5,7 @@ ghost use Rattle.std.specs.Io.KnownBytes.{Appends};
 ghost use Rattle.std.specs.declared.io.ErrorKind.TheVariants.{InvalidData};
 ghost use Rattle.clap.specs.Words.{kind_of};
 ghost use Rattle.wb_recovery.specs.Timing.{are_constants};
-ghost use Rattle.wb.specs.Serving.{Explains, IsWritten, Performed, Says, Served, Serves, approval, as_task, complaint, failure_status, no_memory, not_text, reading, writing};
+ghost use Rattle.wb.specs.Serving.{Explains, IsTextWritten, PerformedTask, TookText, Served, ServesWords, approval, as_task, complaint, failure_status, no_memory, not_text, reading_between, writing_between};
 
 use crate::command::{Task, task_of};
 use clap::Error;
@@ -72,7 +72,7 @@ fn text_of(alloc: Global, failure: Failure) -> Result<String, AllocError>
 
 /// Writes all of the bytes, or a front of them if the sink fails.
 fn push_all<S: Sink>(sink: &mut S, bytes: &[u8])
-    ensures { Says (writing S.Sink sink.old sink.new) bytes.now }
+    ensures { TookText (writing_between S.Sink sink.old sink.new) bytes.now }
 {
     let mut sent = 0;
     while sent < bytes.len() {
@@ -86,7 +86,7 @@ fn push_all<S: Sink>(sink: &mut S, bytes: &[u8])
 /// Writes that an allocation failed, and answers the status for it. That allocates nothing.
 pub fn report_no_memory<E: Sink>(errors: &mut E) -> u8
     ensures status { result ≡ 4 }
-    ensures text { Says (writing E.Sink errors.old errors.new) no_memory }
+    ensures text { TookText (writing_between E.Sink errors.old errors.new) no_memory }
 {
     push_all(errors, b"wb: memory\n");
     NO_MEMORY
@@ -96,7 +96,7 @@ pub fn report_no_memory<E: Sink>(errors: &mut E) -> u8
 /// nothing.
 fn report<E: Sink>(alloc: Global, errors: &mut E, failure: Failure) -> u8
     ensures status { result ≡ failure_status failure }
-    ensures text { Explains (Err failure) (writing E.Sink errors.old errors.new) }
+    ensures text { Explains (Err failure) (writing_between E.Sink errors.old errors.new) }
 {
     match text_of(alloc, failure) {
         Ok(text) => push_all(errors, text.as_bytes()),
@@ -108,7 +108,7 @@ fn report<E: Sink>(alloc: Global, errors: &mut E, failure: Failure) -> u8
 /// Writes the parser's text about the words, and answers the status for it.
 fn misuse<E: Sink>(alloc: Global, errors: &mut E, error: Error) -> u8
     ensures status { (result ≡ 4) ⊎ ((result ≡ 2) × (kind_of error ≢ ErrorKind.OutOfMemory)) }
-    ensures text { result ≡ 4 → Says (writing E.Sink errors.old errors.new) no_memory }
+    ensures text { result ≡ 4 → TookText (writing_between E.Sink errors.old errors.new) no_memory }
 {
     if error.kind() == ErrorKind::OutOfMemory {
         return report_no_memory(errors);
@@ -126,9 +126,9 @@ fn misuse<E: Sink>(alloc: Global, errors: &mut E, error: Error) -> u8
 /// them is not UTF-8, or an allocation failed.
 pub fn refuse_words<E: Sink>(errors: &mut E, kind: io::ErrorKind) -> u8
     ensures not_text { kind ≡ InvalidData → (result ≡ 2)
-        × Says (writing E.Sink errors.old errors.new) not_text }
+        × TookText (writing_between E.Sink errors.old errors.new) not_text }
     ensures no_memory { kind ≢ InvalidData → (result ≡ 4)
-        × Says (writing E.Sink errors.old errors.new) no_memory }
+        × TookText (writing_between E.Sink errors.old errors.new) no_memory }
 {
     if kind == io::ErrorKind::InvalidData {
         push_all(errors, b"wb: a word of the command line is not UTF-8\n");
@@ -148,7 +148,7 @@ fn approval(alloc: Global, lines: u32) -> Result<String, AllocError>
 /// Writes that each line parses.
 fn approve<W: Sink>(alloc: Global, sink: &mut W, lines: u32) -> Result<(), RunFault>
     ensures text { (written : List ℕ) × Appends (W.taken sink.old) (W.taken sink.new) written
-        × IsWritten (approval lines) written result }
+        × IsTextWritten (approval lines) written result }
     ensures read { result ≢ Err RunFault.Read }
     ensures write { result ≡ Err RunFault.Write → W.has_failed sink.new ≡ true }
 {
@@ -167,8 +167,8 @@ fn check_lines<R: Source, W: Sink>(
     source: &mut R,
     sink: &mut W,
 ) -> Result<(), RunFault>
-    ensures { Performed Task.Check (reading R.Source source.old source.new)
-        (writing W.Sink sink.old sink.new) (as_task Failure.Run result) }
+    ensures { PerformedTask Task.Check (reading_between R.Source source.old source.new)
+        (writing_between W.Sink sink.old sink.new) (as_task Failure.Run result) }
 {
     let lines = check(alloc, source)?;
     approve(alloc, sink, lines)
@@ -182,8 +182,8 @@ fn perform_run<T: Threads + Wait + Sync, R: Source, W: Sink>(
     source: &mut R,
     sink: &mut W,
 ) -> Result<(), Failure>
-    ensures { Performed (Task.Run workers) (reading R.Source source.old source.new)
-        (writing W.Sink sink.old sink.new) result }
+    ensures { PerformedTask (Task.Run workers) (reading_between R.Source source.old source.new)
+        (writing_between W.Sink sink.old sink.new) result }
 {
     match run(rt, alloc, source, sink, workers, &NoGate) {
         Ok(_) => Ok(()),
@@ -197,8 +197,8 @@ fn perform_check<R: Source, W: Sink>(
     source: &mut R,
     sink: &mut W,
 ) -> Result<(), Failure>
-    ensures { Performed Task.Check (reading R.Source source.old source.new)
-        (writing W.Sink sink.old sink.new) result }
+    ensures { PerformedTask Task.Check (reading_between R.Source source.old source.new)
+        (writing_between W.Sink sink.old sink.new) result }
 {
     match check_lines(alloc, source, sink) {
         Ok(_) => Ok(()),
@@ -213,8 +213,8 @@ fn perform_turn<R: Source, W: Sink>(
     source: &mut R,
     sink: &mut W,
 ) -> Result<(), Failure>
-    ensures { Performed (Task.Turn filter) (reading R.Source source.old source.new)
-        (writing W.Sink sink.old sink.new) result }
+    ensures { PerformedTask (Task.Turn filter) (reading_between R.Source source.old source.new)
+        (writing_between W.Sink sink.old sink.new) result }
 {
     match run_filter(alloc, filter, source, sink) {
         Ok(_) => Ok(()),
@@ -230,8 +230,8 @@ fn perform_host<R: Source, W: Sink>(
     sink: &mut W,
 ) -> Result<(), Failure>
     requires { are_constants tuning ≡ true }
-    ensures { Performed (Task.Host tuning) (reading R.Source source.old source.new)
-        (writing W.Sink sink.old sink.new) result }
+    ensures { PerformedTask (Task.Host tuning) (reading_between R.Source source.old source.new)
+        (writing_between W.Sink sink.old sink.new) result }
 {
     match host(alloc, tuning, source, sink) {
         Ok(_) => Ok(()),
@@ -247,8 +247,8 @@ fn perform<T: Threads + Wait + Sync, R: Source, W: Sink>(
     source: &mut R,
     sink: &mut W,
 ) -> Result<(), Failure>
-    ensures { Performed task (reading R.Source source.old source.new)
-        (writing W.Sink sink.old sink.new) result }
+    ensures { PerformedTask task (reading_between R.Source source.old source.new)
+        (writing_between W.Sink sink.old sink.new) result }
 {
     match task {
         Task::Run { workers } => perform_run(rt, alloc, workers, source, sink),
@@ -267,8 +267,8 @@ fn finish<T: Threads + Wait + Sync, R: Source, W: Sink, E: Sink>(
     sink: &mut W,
     errors: &mut E,
 ) -> u8
-    ensures served { Served task (reading R.Source source.old source.new)
-        (writing W.Sink sink.old sink.new) (writing E.Sink errors.old errors.new) result }
+    ensures served { Served task (reading_between R.Source source.old source.new)
+        (writing_between W.Sink sink.old sink.new) (writing_between E.Sink errors.old errors.new) result }
     ensures quiet { result ≡ 0 → E.taken errors.new ≡ E.taken errors.old }
 {
     match perform(rt, alloc, task, source, sink) {
@@ -288,9 +288,9 @@ pub fn serve<T: AllocGlobal + Threads + Wait + Sync, R: Source, W: Sink, E: Sink
     sink: &mut W,
     errors: &mut E,
 ) -> u8
-    ensures served { Serves (map (λ word. word.now) words.now)
-        (reading R.Source source.old source.new)
-        (writing W.Sink sink.old sink.new) (writing E.Sink errors.old errors.new) result }
+    ensures served { ServesWords (map (λ word. word.now) words.now)
+        (reading_between R.Source source.old source.new)
+        (writing_between W.Sink sink.old sink.new) (writing_between E.Sink errors.old errors.new) result }
     ensures failed { result ≡ 3
         → (R.has_failed source.new ≡ true) ⊎ (W.has_failed sink.new ≡ true) }
     ensures quiet { result ≡ 0 → E.taken errors.new ≡ E.taken errors.old }

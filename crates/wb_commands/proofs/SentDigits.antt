@@ -14,7 +14,7 @@ use Rattle.wb_lines.specs.Words.{words, words_after, unhex}
 use Rattle.wb_words.specs.Reading.{is_kind, first_is_kind, begins_datagram}
 use Rattle.wb_words.specs.Spelling.{word_list, spelled}
 use Rattle.wb_words.proofs.SpellingLaws.{words_spelled, read_again}
-use Rattle.wb_commands.specs.Parsing.{datagram, command, line_of_words, line_of, arrived, heard, handed_in}
+use Rattle.wb_commands.specs.Parsing.{datagram, script_command, script_line_of_words, script_line_of, arrived_line, heard_line, handed_in}
 use Rattle.wb_commands.specs.SentLines.{digits_of, SentIsTaken}
 use Rattle.wb_codec.proofs.SpelledBytes.{spelled_bytes}
 
@@ -66,16 +66,16 @@ pub datagram_read : (v : Datagram) → IsDatagram v → datagram (digits_of v �
 unfolding datagram
 datagram_read v fits = rw (bytes_read v fits, reading_again v fits) refl
 
-as_arrival : (v : Datagram) → IsDatagram v → command (codes "arrive") (digits_of v ∷ []) ≡ arrived v
-unfolding command
+as_arrival : (v : Datagram) → IsDatagram v → script_command (codes "arrive") (digits_of v ∷ []) ≡ arrived_line v
+unfolding script_command
 as_arrival v fits = rw (datagram_read v fits) refl
 
-as_heard : (v : Datagram) → IsDatagram v → command (codes "hear") (digits_of v ∷ []) ≡ heard v
-unfolding command
+as_heard : (v : Datagram) → IsDatagram v → script_command (codes "hear") (digits_of v ∷ []) ≡ heard_line v
+unfolding script_command
 as_heard v fits = rw (datagram_read v fits) refl
 
-as_bytes : (v : Datagram) → IsDatagram v → command (codes "datagram") (digits_of v ∷ []) ≡ Ok (handed_in v)
-unfolding command
+as_bytes : (v : Datagram) → IsDatagram v → script_command (codes "datagram") (digits_of v ∷ []) ≡ Ok (handed_in v)
+unfolding script_command
 as_bytes v fits = rw (datagram_read v fits) refl
 
 -- ---- a datagram in words, and other lines
@@ -88,7 +88,7 @@ opens (Request asker name) = refl
 opens (AskPages asker) = refl
 opens (PageState sender page marks) = refl
 
-as_words : (v : Datagram) → IsDatagram v → line_of (spelled v) ≡ Ok (handed_in v)
+as_words : (v : Datagram) → IsDatagram v → script_line_of (spelled v) ≡ Ok (handed_in v)
 as_words v fits =
     let begins : begins_datagram (spelled v) ≡ true = ap first_is_kind (words_spelled v fits) ∙ opens v in
     rw (begins, read_again (spelled v) v (fits, refl)) refl
@@ -111,8 +111,8 @@ others rest = record {
 }
 
 -- a line that does not begin like a datagram is read by its words
-told : (line : List ℕ) (ws : List (List ℕ)) → begins_datagram line ≡ false → words line ≡ ws → line_of line ≡ line_of_words ws
-told line ws other e = rw other (ap line_of_words e)
+told : (line : List ℕ) (ws : List (List ℕ)) → begins_datagram line ≡ false → words line ≡ ws → script_line_of line ≡ script_line_of_words ws
+told line ws other e = rw other (ap script_line_of_words e)
 
 pub taken : SentIsTaken
 taken v fits =

@@ -25,8 +25,8 @@ abbrev pub tells : Opened → Option (List ℕ) → Act
 tells host (Some text) = does host text
 tells host None = fails faults.TooMany
 
-abbrev pub asked : Query → Opened → Act
-asked query host = tells host (answer_text (answer_to query host))
+abbrev pub question_act : Query → Opened → Act
+question_act query host = tells host (answer_text (answer_to query host))
 
 -- A call that the member refuses is not taken. If memory lacks, that says nothing of the line.
 abbrev pub unless : Option KeepFault → Act → Act
@@ -41,6 +41,6 @@ called call host = unless (call_fault call host) (does (after_call call host) (c
 
 -- What a line does here. One that is skipped, that opens a board or that hands in an arrival does nothing here.
 abbrev pub act : Command → Opened → Act
-act (lines.Question query) host = asked query host
+act (lines.Question query) host = question_act query host
 act (lines.Call call) host = called call host
 act line host = does host []

@@ -31,27 +31,27 @@ abbrev pub page_line : PageId → List ℕ
 page_line p = pair_line p.creator p.number
 
 -- a word and how many there are, and a line for each
-abbrev pub list_text : {X : Type 0} → List ℕ → (X → List ℕ) → List X → List ℕ
-list_text word line xs = word ++ (decimal (length xs) ++ codes "\n") ++ flat_map line xs
+abbrev pub counted_list : {X : Type 0} → List ℕ → (X → List ℕ) → List X → List ℕ
+counted_list word line xs = word ++ (decimal (length xs) ++ codes "\n") ++ flat_map line xs
 
 abbrev pub gaps_text : List Gap → List ℕ
-gaps_text gaps = list_text (codes "gaps ") gap_line gaps
+gaps_text gaps = counted_list (codes "gaps ") gap_line gaps
 
 abbrev pub report_text : List MarkValue → List ℕ
-report_text marks = list_text (codes "report ") mark_line marks
+report_text marks = counted_list (codes "report ") mark_line marks
 
 abbrev pub pages_text : List PageId → List ℕ
-pages_text pages = list_text (codes "pages ") page_line pages
+pages_text pages = counted_list (codes "pages ") page_line pages
 
-abbrev pub known_text : List PageId → List ℕ
-known_text pages = list_text (codes "known ") page_line pages
+abbrev pub known_pages_text : List PageId → List ℕ
+known_pages_text pages = counted_list (codes "known ") page_line pages
 
 -- a drawop in words on a line
-abbrev pub words_line : DrawopValue → List ℕ
-words_line d = spelled (datagrams.Draw d) ++ codes "\n"
+abbrev pub drawop_line : DrawopValue → List ℕ
+drawop_line d = spelled (datagrams.Draw d) ++ codes "\n"
 
 abbrev pub view_text : List DrawopValue → List ℕ
-view_text drawops = list_text (codes "view ") words_line drawops
+view_text drawops = counted_list (codes "view ") drawop_line drawops
 
 abbrev pub next_line : ℕ → List ℕ
 next_line n = codes "next " ++ (decimal n ++ codes "\n")
@@ -63,5 +63,5 @@ answer_text (told.gaps ranges) = Some (gaps_text ranges)
 answer_text (told.report marks) = Some (report_text marks)
 answer_text (told.pages all) = Some (pages_text all)
 answer_text (told.view drawops) = Some (view_text drawops)
-answer_text (told.known all) = Some (known_text all)
+answer_text (told.known all) = Some (known_pages_text all)
 answer_text (told.next number) = option_map next_line number

@@ -37,8 +37,8 @@ PrintsAnswer before after (Err (untaken.Line e)) None = (e ≡ faults.TooMany) �
 PrintsAnswer before after (Err untaken.Memory) text = after ≡ before
 
 -- why a line is not taken, if a member refuses it with a fault
-abbrev pub fault_of : KeepFault → Untaken
-fault_of keeping.BackInTime = untaken.Line faults.BackInTime
-fault_of keeping.Range = untaken.Line faults.Number
-fault_of keeping.TooMany = untaken.Line faults.TooMany
-fault_of keeping.Memory = untaken.Memory
+abbrev pub untaken_by : KeepFault → Untaken
+untaken_by keeping.BackInTime = untaken.Line faults.BackInTime
+untaken_by keeping.Range = untaken.Line faults.Number
+untaken_by keeping.TooMany = untaken.Line faults.TooMany
+untaken_by keeping.Memory = untaken.Memory

@@ -79,8 +79,8 @@ show arguments = do
   Ok (Canvas (record { creator = creator; number = number' }) width height)
 
 -- a source, and a delay in microseconds
-unfoldable pub distance : List (List ℕ) → Result Command LineFault
-distance arguments = do
+unfoldable pub distance_set : List (List ℕ) → Result Command LineFault
+distance_set arguments = do
   words' ← or_fault faults.Words (two_of arguments)
   source ← number 0 (2 ^ 32 - 1) words'.0
   micros ← number 0 MAX_DELAY words'.1
@@ -115,8 +115,8 @@ abbrev pub pages : List (List ℕ) → Result Query LineFault
 pages arguments = or_fault faults.Words (none_of arguments) >>= λ nothing. Ok Pages
 
 -- the question with this first word
-unfoldable pub question : List ℕ → List (List ℕ) → Result Query LineFault
-question word arguments =
+unfoldable pub script_question : List ℕ → List (List ℕ) → Result Query LineFault
+script_question word arguments =
     if bytes_eq word (codes "show") then show arguments
     else (if bytes_eq word (codes "gaps") then page arguments >>= (λ p. Ok (Gaps p))
     else (if bytes_eq word (codes "report") then page arguments >>= (λ p. Ok (Report p))
@@ -124,25 +124,25 @@ question word arguments =
     else Err faults.Unknown)))
 
 -- the datagram that bytes spell
-abbrev pub spelled : Result Datagram ReadFault → Result Datagram LineFault
-spelled (Ok v) = Ok v
-spelled (Err e) = Err (faults.Digits (digit_faults.Datagram e))
+abbrev pub read_or_fault : Result Datagram ReadFault → Result Datagram LineFault
+read_or_fault (Ok v) = Ok v
+read_or_fault (Err e) = Err (faults.Digits (digit_faults.Datagram e))
 
 -- the datagram that digits spell
 unfoldable pub datagram : List (List ℕ) → Result Datagram LineFault
 datagram arguments = do
   digits ← or_fault faults.Words (one_of arguments)
   bytes ← or_fault (faults.Digits digit_faults.Hex) (unhex digits)
-  spelled (reading bytes)
+  read_or_fault (reading bytes)
 
 -- drawops arrive, and every other datagram is heard
-abbrev pub arrived : Datagram → Result Command LineFault
-arrived (datagrams.Draw d) = Ok (Arrive d)
-arrived v = Err (faults.Digits digit_faults.Kind)
+abbrev pub arrived_line : Datagram → Result Command LineFault
+arrived_line (datagrams.Draw d) = Ok (Arrive d)
+arrived_line v = Err (faults.Digits digit_faults.Kind)
 
-abbrev pub heard : Datagram → Result Command LineFault
-heard (datagrams.Draw d) = Err (faults.Digits digit_faults.Kind)
-heard v = Ok (Calls (Hear v))
+abbrev pub heard_line : Datagram → Result Command LineFault
+heard_line (datagrams.Draw d) = Err (faults.Digits digit_faults.Kind)
+heard_line v = Ok (Calls (Hear v))
 
 -- If a line does not say which it is to be, a drawop arrives, and every other datagram is heard.
 abbrev pub handed_in : Datagram → Command
@@ -150,57 +150,57 @@ handed_in (datagrams.Draw d) = Arrive d
 handed_in v = Calls (Hear v)
 
 abbrev pub arrive : List (List ℕ) → Result Command LineFault
-arrive arguments = datagram arguments >>= arrived
+arrive arguments = datagram arguments >>= arrived_line
 
 abbrev pub hear : List (List ℕ) → Result Command LineFault
-hear arguments = datagram arguments >>= heard
+hear arguments = datagram arguments >>= heard_line
 
 abbrev pub bytes_line : List (List ℕ) → Result Command LineFault
 bytes_line arguments = datagram arguments >>= λ v. Ok (handed_in v)
 
 -- the line of a page with this first word, or a question
-unfoldable pub page_line : List ℕ → List (List ℕ) → Result Command LineFault
-page_line word arguments =
+unfoldable pub line_of_page : List ℕ → List (List ℕ) → Result Command LineFault
+line_of_page word arguments =
     if bytes_eq word (codes "look") then page arguments >>= (λ p. Ok (Calls (Look p)))
     else (if bytes_eq word (codes "session") then page arguments >>= (λ p. Ok (Calls (Session p)))
-    else question word arguments >>= (λ query. Ok (Question query)))
+    else script_question word arguments >>= (λ query. Ok (Question query)))
 
 -- the line with this first word and these further ones
-unfoldable pub command : List ℕ → List (List ℕ) → Result Command LineFault
-command word arguments =
+unfoldable pub script_command : List ℕ → List (List ℕ) → Result Command LineFault
+script_command word arguments =
     if bytes_eq word (codes "board") then board arguments
     else (if bytes_eq word (codes "arrive") then arrive arguments
     else (if bytes_eq word (codes "hear") then hear arguments
     else (if bytes_eq word (codes "datagram") then bytes_line arguments
-    else (if bytes_eq word (codes "distance") then distance arguments
+    else (if bytes_eq word (codes "distance") then distance_set arguments
     else (if bytes_eq word (codes "tuning") then tuning arguments
     else (if bytes_eq word (codes "tick") then tick arguments
-    else page_line word arguments))))))
+    else line_of_page word arguments))))))
 
 -- a comment begins with `#`
 abbrev pub begins_comment : List ℕ → Bool
 begins_comment [] = false
 begins_comment (b ∷ bs) = nat_eq b 35
 
-abbrev pub line_of_words : List (List ℕ) → Result Command LineFault
-line_of_words [] = Ok Skip
-line_of_words (word ∷ arguments) = if begins_comment word then Ok Skip else command word arguments
+abbrev pub script_line_of_words : List (List ℕ) → Result Command LineFault
+script_line_of_words [] = Ok Skip
+script_line_of_words (word ∷ arguments) = if begins_comment word then Ok Skip else script_command word arguments
 
 -- a datagram in words
-abbrev pub in_words : Result Datagram WrongWord → Result Command LineFault
-in_words (Ok v) = Ok (handed_in v)
-in_words (Err wrong) = Err (faults.Word wrong)
+abbrev pub script_in_words : Result Datagram WrongWord → Result Command LineFault
+script_in_words (Ok v) = Ok (handed_in v)
+script_in_words (Err wrong) = Err (faults.Word wrong)
 
 -- The line, which stands without its end. One whose first word tells the kind of a datagram is a datagram in words.
-abbrev pub line_of : List ℕ → Result Command LineFault
-line_of bytes = if begins_datagram bytes then in_words (reading_words bytes) else line_of_words (words bytes)
+abbrev pub script_line_of : List ℕ → Result Command LineFault
+script_line_of bytes = if begins_datagram bytes then script_in_words (reading_words bytes) else script_line_of_words (words bytes)
 
 -- What a line carries is in its range: the cells of a board, the size of a canvas, and the numbers of a call.
-abbrev pub IsWithin : Command → Type 0
-IsWithin (Board member cells workers seed) = IsCellCount cells
-IsWithin (Question query) = IsAnswerable query
-IsWithin (Calls call) = IsCallWithin call
-IsWithin line = Unit {0}
+abbrev pub IsScriptWithin : Command → Type 0
+IsScriptWithin (Board member cells workers seed) = IsCellCount cells
+IsScriptWithin (Question query) = IsAnswerable query
+IsScriptWithin (Calls call) = IsCallWithin call
+IsScriptWithin line = Unit {0}
 
 -- A line that carries a datagram, for which memory is taken.
 abbrev pub CarriesDatagram : Command → Type 0

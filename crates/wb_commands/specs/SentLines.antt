@@ -11,7 +11,7 @@ use Rattle.wb_member.specs.Opened.{Opened}
 use Rattle.wb_member.specs.declared.calls.Call.{Call}
 use Rattle.wb_member.specs.declared.calls.Found.{Found}
 use Rattle.wb_member.specs.declared.calls.Found.TheVariants.{Nothing, Missing, MayAsk, WasAsked}
-use Rattle.wb_commands.specs.Parsing.{line_of, arrived, heard, handed_in}
+use Rattle.wb_commands.specs.Parsing.{script_line_of, arrived_line, heard_line, handed_in}
 
 -- the bytes of a datagram in hexadecimal, with lower-case letters
 abbrev pub digits_of : Datagram → List ℕ
@@ -54,11 +54,11 @@ call_text call host = done_text (sent_by_call call host) (found_by call host)
 
 -- What one script prints as sent, another takes. After the word `arrive` the digits of a drawop, and after `hear` those of every
 -- other datagram, are read as that datagram; after `datagram` those of each are, and so are its words.
-pub record IsTaken (v : Datagram) : Type 0 where
-  pub arrives : line_of (codes "arrive " ++ digits_of v) ≡ arrived v
-  pub hears : line_of (codes "hear " ++ digits_of v) ≡ heard v
-  pub by_bytes : line_of (codes "datagram " ++ digits_of v) ≡ Ok (handed_in v)
-  pub by_words : line_of (spelled v) ≡ Ok (handed_in v)
+pub record IsReadBack (v : Datagram) : Type 0 where
+  pub arrives : script_line_of (codes "arrive " ++ digits_of v) ≡ arrived_line v
+  pub hears : script_line_of (codes "hear " ++ digits_of v) ≡ heard_line v
+  pub by_bytes : script_line_of (codes "datagram " ++ digits_of v) ≡ Ok (handed_in v)
+  pub by_words : script_line_of (spelled v) ≡ Ok (handed_in v)
 
 abbrev pub SentIsTaken : Type 0
-SentIsTaken = (v : Datagram) → IsDatagram v → IsTaken v
+SentIsTaken = (v : Datagram) → IsDatagram v → IsReadBack v

@@ -2,9 +2,9 @@
 ghost use Rattle.std.specs.Prelude.{◌≡◌};
 ghost use Rattle.wb_member.specs.Calls.{IsWithin as IsCallWithin};
 ghost use Rattle.wb_member.specs.Questions.{IsAnswerable};
-ghost use Rattle.wb_commands.specs.Doing.{DoesAt, fault_of};
-ghost use Rattle.wb_commands.specs.Acts.{act, asked, called};
-ghost use Rattle.wb_commands.specs.Parsing.{IsWithin};
+ghost use Rattle.wb_commands.specs.Doing.{DoesAt, untaken_by};
+ghost use Rattle.wb_commands.specs.Acts.{act, question_act, called};
+ghost use Rattle.wb_commands.specs.Parsing.{IsScriptWithin};
 
 use crate::answers::print;
 use crate::command::Command;
@@ -17,7 +17,7 @@ use wb_member::{Call, Member, Query};
 
 /// Why a line is not taken, if the member refuses what it says.
 fn refused(fault: KeepFault) -> Untaken
-    ensures { result ≡ fault_of fault }
+    ensures { result ≡ untaken_by fault }
 {
     match fault {
         KeepFault::BackInTime => Untaken::Line(LineFault::BackInTime),
@@ -30,7 +30,7 @@ fn refused(fault: KeepFault) -> Untaken
 /// Asks the member a question, and prints the answer.
 fn ask(alloc: Global, member: &mut Member, query: Query, output: &mut Output) -> Result<(), Untaken>
     requires { IsAnswerable query }
-    ensures text { DoesAt member.old member.new output.old output.new result (asked query) }
+    ensures text { DoesAt member.old member.new output.old output.new result (question_act query) }
 {
     let answer = member.answer(alloc, query)?;
     print(alloc, &answer, output)
@@ -64,7 +64,7 @@ pub fn act(
     command: &Command,
     output: &mut Output,
 ) -> Result<(), Untaken>
-    requires { IsWithin command.now }
+    requires { IsScriptWithin command.now }
     ensures text { DoesAt member.old member.new output.old output.new result (act command.now) }
 {
     match command {

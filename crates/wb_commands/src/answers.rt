@@ -4,7 +4,7 @@ ghost use Rattle.std.specs.String.{string_bytes};
 ghost use Rattle.wb_names.specs.Arrivals.{counts, counts_of};
 ghost use Rattle.wb_member.specs.Holding.{outcome_in};
 ghost use Rattle.wb_member.specs.Questions.{told};
-ghost use Rattle.wb_commands.specs.Answers.{answer_text, batch_line, gaps_text, known_text, next_line, pages_text, report_text, view_text, words_line};
+ghost use Rattle.wb_commands.specs.Answers.{answer_text, batch_line, gaps_text, known_pages_text, next_line, pages_text, report_text, view_text, drawop_line};
 ghost use Rattle.wb_commands.specs.Doing.{PrintsAnswer};
 
 use crate::fault::{LineFault, Untaken};
@@ -67,14 +67,14 @@ fn pages_text(alloc: Global, pages: &[PageId]) -> Result<String, AllocError>
 
 /// How many pages are known, and a line for each.
 fn known_text(alloc: Global, pages: &[PageId]) -> Result<String, AllocError>
-    ensures { IfOk result (λ text. string_bytes text ≡ known_text pages.now) }
+    ensures { IfOk result (λ text. string_bytes text ≡ known_pages_text pages.now) }
 {
     list_text(alloc, "known ", pages)
 }
 
 /// A drawop in words, with a line feed.
 fn words_line(alloc: Global, drawop: &Drawop) -> Result<Vec<u8>, AllocError>
-    ensures { IfOk result (λ line. line.items ≡ words_line drawop.now) }
+    ensures { IfOk result (λ line. line.items ≡ drawop_line drawop.now) }
 {
     let mut line = write_words(alloc, &Datagram::Draw(*drawop))?;
     line.push(b'\n')?;

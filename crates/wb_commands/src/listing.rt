@@ -1,7 +1,7 @@
 //! Answers that are lists: how many there are, and a line for each.
 ghost use Rattle.std.specs.Prelude.{◌≡◌, List, ℕ, IfOk};
 ghost use Rattle.std.specs.String.{string_bytes};
-ghost use Rattle.wb_commands.specs.Answers.{list_text, pair_line};
+ghost use Rattle.wb_commands.specs.Answers.{counted_list, pair_line};
 
 use std::alloc::{AllocError, Global};
 use wb_names::{Gap, Mark, PageId};
@@ -68,7 +68,7 @@ pub(crate) fn list_text<T: Listed>(
     word: &str,
     items: &[T],
 ) -> Result<String, AllocError>
-    ensures { IfOk result (λ text. string_bytes text ≡ list_text word.now T.spelled items.now) }
+    ensures { IfOk result (λ text. string_bytes text ≡ counted_list word.now T.spelled items.now) }
 {
     let count = items.len();
     let mut text = format!(in alloc; "{word}{count}\n")?;

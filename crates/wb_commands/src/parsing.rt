@@ -2,7 +2,7 @@
 ghost use Rattle.std.specs.Prelude.{◌≡◌, ◌≤◌, IfOk, Result, Ok, Err, option_map};
 ghost use Rattle.wb_lines.specs.Words.{words};
 ghost use Rattle.wb_member.specs.Questions.{IsAnswerable};
-ghost use Rattle.wb_commands.specs.Parsing.{Parses, ParsesLine, IsWithin, number, none_of, one_of, two_of, four_of, board, show, distance, tuning, tick, page, pages, question, page_line, datagram, arrive, hear, handed_in, bytes_line, command, begins_comment, line_of_words, in_words, line_of, CarriesDatagram};
+ghost use Rattle.wb_commands.specs.Parsing.{Parses, ParsesLine, IsScriptWithin, number, none_of, one_of, two_of, four_of, board, show, distance_set, tuning, tick, page, pages, script_question, line_of_page, datagram, arrive, hear, handed_in, bytes_line, script_command, begins_comment, script_line_of_words, script_in_words, script_line_of, CarriesDatagram};
 ghost use Rattle.wb_words.specs.Reading.{reading as reading_words};
 
 use crate::command::Command;
@@ -82,7 +82,7 @@ pub fn u32_word(word: &[u8], low: u32, high: u32) -> Result<u32, LineFault>
 #[tactic(auto, unfolding(crate::specs::Parsing::board))]
 fn board(rest: &[u8]) -> Result<Command, LineFault>
     ensures line { result ≡ board (words rest.now) }
-    ensures within { IfOk result IsWithin }
+    ensures within { IfOk result IsScriptWithin }
 {
     let (member, cells, workers, seed) = four_words(rest).ok_or(LineFault::Words)?;
     let member = u32_word(member, 0, u32::MAX)?;
@@ -117,8 +117,8 @@ fn show(rest: &[u8]) -> Result<Query, LineFault>
 
 #[tactic(auto, unfolding(crate::specs::Parsing::distance))]
 fn distance(rest: &[u8]) -> Result<Command, LineFault>
-    ensures line { result ≡ distance (words rest.now) }
-    ensures within { IfOk result IsWithin }
+    ensures line { result ≡ distance_set (words rest.now) }
+    ensures within { IfOk result IsScriptWithin }
 {
     let (source, micros) = two_words(rest).ok_or(LineFault::Words)?;
     let source = u32_word(source, 0, u32::MAX)?;
@@ -129,7 +129,7 @@ fn distance(rest: &[u8]) -> Result<Command, LineFault>
 #[tactic(auto, unfolding(crate::specs::Parsing::tuning))]
 fn tuning(rest: &[u8]) -> Result<Command, LineFault>
     ensures line { result ≡ tuning (words rest.now) }
-    ensures within { IfOk result IsWithin }
+    ensures within { IfOk result IsScriptWithin }
 {
     let (c1, c2, d1, d2) = four_words(rest).ok_or(LineFault::Words)?;
     let c1 = u32_word(c1, 1, MAX_CONSTANT)?;
@@ -142,7 +142,7 @@ fn tuning(rest: &[u8]) -> Result<Command, LineFault>
 #[tactic(auto, unfolding(crate::specs::Parsing::tick))]
 fn tick(rest: &[u8]) -> Result<Command, LineFault>
     ensures line { result ≡ tick (words rest.now) }
-    ensures within { IfOk result IsWithin }
+    ensures within { IfOk result IsScriptWithin }
 {
     let word = one_word(rest).ok_or(LineFault::Words)?;
     let now = number_word(word, 0, MAX_MOMENT)?;
@@ -171,7 +171,7 @@ fn pages(rest: &[u8]) -> Result<Query, LineFault>
 /// The question with this first word.
 #[tactic(auto, unfolding(crate::specs::Parsing::question))]
 fn question(word: &[u8], rest: &[u8]) -> Result<Query, LineFault>
-    ensures query { result ≡ question word.now (words rest.now) }
+    ensures query { result ≡ script_question word.now (words rest.now) }
     ensures within { IfOk result IsAnswerable }
 {
     if word == b"show".as_slice() {
@@ -207,7 +207,7 @@ pub fn datagram(alloc: Global, rest: &[u8]) -> Result<Datagram, Untaken>
 /// The line that hands in a datagram.
 fn handed_in(datagram: Datagram) -> Command
     ensures line { result ≡ handed_in datagram }
-    ensures within { IsWithin result }
+    ensures within { IsScriptWithin result }
     ensures carries { CarriesDatagram result }
 {
     match datagram {
@@ -218,7 +218,7 @@ fn handed_in(datagram: Datagram) -> Command
 
 fn arrive(alloc: Global, rest: &[u8]) -> Result<Command, Untaken>
     ensures line { ParsesLine result (arrive (words rest.now)) }
-    ensures within { IfOk result IsWithin }
+    ensures within { IfOk result IsScriptWithin }
 {
     match datagram(alloc, rest)? {
         Datagram::Draw(drawop) => Ok(Command::Arrive(drawop)),
@@ -228,7 +228,7 @@ fn arrive(alloc: Global, rest: &[u8]) -> Result<Command, Untaken>
 
 fn hear(alloc: Global, rest: &[u8]) -> Result<Command, Untaken>
     ensures line { ParsesLine result (hear (words rest.now)) }
-    ensures within { IfOk result IsWithin }
+    ensures within { IfOk result IsScriptWithin }
 {
     match datagram(alloc, rest)? {
         Datagram::Draw(_) => Err(Untaken::Line(LineFault::Digits(DigitsFault::Kind))),
@@ -238,15 +238,15 @@ fn hear(alloc: Global, rest: &[u8]) -> Result<Command, Untaken>
 
 fn bytes_line(alloc: Global, rest: &[u8]) -> Result<Command, Untaken>
     ensures line { ParsesLine result (bytes_line (words rest.now)) }
-    ensures within { IfOk result IsWithin }
+    ensures within { IfOk result IsScriptWithin }
 {
     Ok(handed_in(datagram(alloc, rest)?))
 }
 
 #[tactic(auto, unfolding(crate::specs::Parsing::page_line))]
 fn page_line(word: &[u8], rest: &[u8]) -> Result<Command, LineFault>
-    ensures line { result ≡ page_line word.now (words rest.now) }
-    ensures within { IfOk result IsWithin }
+    ensures line { result ≡ line_of_page word.now (words rest.now) }
+    ensures within { IfOk result IsScriptWithin }
 {
     if word == b"look".as_slice() {
         Ok(Command::Call(Call::Look(page(rest)?)))
@@ -259,8 +259,8 @@ fn page_line(word: &[u8], rest: &[u8]) -> Result<Command, LineFault>
 
 #[tactic(auto, unfolding(crate::specs::Parsing::command))]
 fn command(alloc: Global, word: &[u8], rest: &[u8]) -> Result<Command, Untaken>
-    ensures line { ParsesLine result (command word.now (words rest.now)) }
-    ensures within { IfOk result IsWithin }
+    ensures line { ParsesLine result (script_command word.now (words rest.now)) }
+    ensures within { IfOk result IsScriptWithin }
 {
     if word == b"board".as_slice() {
         Ok(board(rest)?)
@@ -292,8 +292,8 @@ fn begins_comment(word: &[u8]) -> bool
 
 /// The line that a datagram in words is, or its first word that is wrong.
 fn in_words(alloc: Global, line: &[u8]) -> Result<Command, Untaken>
-    ensures line { ParsesLine result (in_words (reading_words line.now)) }
-    ensures within { IfOk result IsWithin }
+    ensures line { ParsesLine result (script_in_words (reading_words line.now)) }
+    ensures within { IfOk result IsScriptWithin }
 {
     match read_words(alloc, line) {
         Ok(datagram) => Ok(handed_in(datagram)),
@@ -307,8 +307,8 @@ fn in_words(alloc: Global, line: &[u8]) -> Result<Command, Untaken>
 /// words. Memory can run out only in a line that carries a datagram: if that is in hexadecimal,
 /// after its digits are checked.
 pub fn parse_line(alloc: Global, bytes: &[u8]) -> Result<Command, Untaken>
-    ensures line { ParsesLine result (line_of bytes.now) }
-    ensures within { IfOk result IsWithin }
+    ensures line { ParsesLine result (script_line_of bytes.now) }
+    ensures within { IfOk result IsScriptWithin }
 {
     if begins_datagram(bytes) {
         return in_words(alloc, bytes);
@@ -318,8 +318,8 @@ pub fn parse_line(alloc: Global, bytes: &[u8]) -> Result<Command, Untaken>
 
 /// The line of these words, by the first of them.
 fn line_of_words(alloc: Global, bytes: &[u8]) -> Result<Command, Untaken>
-    ensures line { ParsesLine result (line_of_words (words bytes.now)) }
-    ensures within { IfOk result IsWithin }
+    ensures line { ParsesLine result (script_line_of_words (words bytes.now)) }
+    ensures within { IfOk result IsScriptWithin }
 {
     match next_word(bytes) {
         None => Ok(Command::Skip),

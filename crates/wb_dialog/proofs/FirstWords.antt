@@ -11,7 +11,7 @@ use Rattle.wb_words.proofs.Splitting.{chosen, some_is, words_split_once, words_w
 use Rattle.wb_commands.specs.declared.command.Command.{Command}
 use Rattle.wb_commands.specs.declared.fault.LineFault.{LineFault}
 use Rattle.wb_commands.specs.declared.fault.LineFault.TheVariants as faults
-use Rattle.wb_commands.specs.Parsing.{line_of_words, line_of, in_words, command, page_line, question}
+use Rattle.wb_commands.specs.Parsing.{script_line_of_words, script_line_of, script_in_words, script_command, line_of_page, script_question}
 
 -- ---- what stands before the first space
 
@@ -42,7 +42,7 @@ words_none begun (b ∷ bytes) e = by (words_none (begun ++ b ∷ []) bytes) (na
 
 -- it is not a word of a script's line, and names no kind of datagram
 pub record IsUnknown (word : List ℕ) : Type 0 where
-  pub script : (arguments : List (List ℕ)) → line_of_words (word ∷ arguments) ≡ Err faults.Unknown
+  pub script : (arguments : List (List ℕ)) → script_line_of_words (word ∷ arguments) ≡ Err faults.Unknown
   pub kind : is_kind word ≡ false
 
 -- the words of a line of a driver that are looked for before those of a script
@@ -54,7 +54,7 @@ pub record AreUnknown : Type 0 where
   pub version : IsUnknown (codes "version")
 
 pub unknown : AreUnknown
-unfolding command page_line question is_kind
+unfolding script_command line_of_page script_question is_kind
 unknown = record {
   say = record { script = λ arguments. refl; kind = refl };
   keep = record { script = λ arguments. refl; kind = refl };
@@ -87,15 +87,15 @@ kind_first line word arguments begins first = at (split_once 32 line) refl where
       kind_is_first front word (words rest) arguments (kind_of_first front _ (sym (ap first_is_kind (words_split_once line front rest is)) ∙ begins)) (sym (words_split [] line front rest is) ∙ first)
 
 -- a line that a script takes has no such word in front
-not_taken : (opener line : List ℕ) (arguments : List (List ℕ)) (l : Command) → IsUnknown opener → words line ≡ opener ∷ arguments → line_of line ≡ Ok l → ⊥
+not_taken : (opener line : List ℕ) (arguments : List (List ℕ)) (l : Command) → IsUnknown opener → words line ≡ opener ∷ arguments → script_line_of line ≡ Ok l → ⊥
 not_taken opener line arguments l none first e = at (begins_datagram line) refl e where
-  at : (begins : Bool) → begins_datagram line ≡ begins → (if begins then in_words (reading line) else line_of_words (words line)) ≡ Ok l → ⊥
+  at : (begins : Bool) → begins_datagram line ≡ begins → (if begins then script_in_words (reading line) else script_line_of_words (words line)) ≡ Ok l → ⊥
   at true begins taken = let kind : true ≡ false = sym (kind_first line opener arguments begins first) ∙ none.kind in absurd cc
   at false begins taken =
-      let bad : ◌≡◌ {A = Result Command LineFault} (Err faults.Unknown) (Ok l) = sym (none.script arguments) ∙ sym (ap line_of_words first) ∙ taken in
+      let bad : ◌≡◌ {A = Result Command LineFault} (Err faults.Unknown) (Ok l) = sym (none.script arguments) ∙ sym (ap script_line_of_words first) ∙ taken in
       absurd cc
 
-pub begins_other : (opener line word : List ℕ) (arguments : List (List ℕ)) (l : Command) → IsUnknown opener → words line ≡ word ∷ arguments → line_of line ≡ Ok l → bytes_eq word opener ≡ false
+pub begins_other : (opener line word : List ℕ) (arguments : List (List ℕ)) (l : Command) → IsUnknown opener → words line ≡ word ∷ arguments → script_line_of line ≡ Ok l → bytes_eq word opener ≡ false
 begins_other opener line word arguments l none first e = at (bytes_eq word opener) refl where
   at : (t : Bool) → bytes_eq word opener ≡ t → bytes_eq word opener ≡ false
   at true same =
@@ -104,7 +104,7 @@ begins_other opener line word arguments l none first e = at (bytes_eq word opene
   at false other = other
 
 -- Nor does one stand before its first space.
-pub opens_other : (opener line word : List ℕ) (more : List (List ℕ)) (l : Command) → IsUnknown opener → nat_eq (length opener) 0 ≡ false → words line ≡ first_and word more → line_of line ≡ Ok l → bytes_eq word opener ≡ false
+pub opens_other : (opener line word : List ℕ) (more : List (List ℕ)) (l : Command) → IsUnknown opener → nat_eq (length opener) 0 ≡ false → words line ≡ first_and word more → script_line_of line ≡ Ok l → bytes_eq word opener ≡ false
 opens_other opener line word more l none some first e = at (bytes_eq word opener) refl where
   at : (t : Bool) → bytes_eq word opener ≡ t → bytes_eq word opener ≡ false
   at true same =

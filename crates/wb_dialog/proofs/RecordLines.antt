@@ -17,11 +17,11 @@ use Rattle.wb_words.specs.Reading.{begins_datagram, first_is_kind, is_kind}
 use Rattle.wb_words.specs.Spelling.{spelled}
 use Rattle.wb_words.proofs.SpellingLaws.{read_again, words_spelled}
 use Rattle.wb_words.proofs.Splitting.{decimal_lacks}
-use Rattle.wb_lines.specs.Words.{number_after, number_of, words, words_after}
+use Rattle.wb_lines.specs.Words.{number_from, number_of, words, words_after}
 use Rattle.wb_member.specs.declared.calls.Call.TheVariants.{Tick}
 use Rattle.wb_commands.specs.declared.command.Command.{Command}
 use Rattle.wb_commands.specs.declared.command.Command.TheVariants as lines
-use Rattle.wb_commands.specs.Parsing.{command, handed_in, line_of as script_line_of, tick, ◌>>=◌}
+use Rattle.wb_commands.specs.Parsing.{script_command, handed_in, script_line_of, tick, ◌>>=◌}
 use Rattle.wb_commands.specs.SentLines.{digits_of}
 use Rattle.wb_commands.proofs.SentDigits.{taken}
 use Rattle.wb_judging.specs.declared.record.RecordLine.{RecordLine}
@@ -36,7 +36,7 @@ use Rattle.wb_dialog.specs.Texts.{record_text}
 digit : (b : ℕ) → digit_value b < 10 → (48 ≤ b) × (b ≤ 57) × (digit_value b + 48 ≡ b)
 digit b d = let k = digit_from_value b d in (k.0, k.1, digit_value_digit b k)
 
-number_again : (high begun : ℕ) (ds : List ℕ) → AllDigits 10 ds → digits_value_after 10 begun ds ≤ high → number_after 0 high begun ds ≡ Some (digits_value_after 10 begun ds)
+number_again : (high begun : ℕ) (ds : List ℕ) → AllDigits 10 ds → digits_value_after 10 begun ds ≤ high → number_from 0 high begun ds ≡ Some (digits_value_after 10 begun ds)
 number_again high begun [] d le = grind (arith, nat_tests)
 number_again high begun (c ∷ cs) d le =
     let k = digit c d.0 in
@@ -47,7 +47,7 @@ moment_again : (now : ℕ) → now ≤ MAX_MOMENT → number_of 0 MAX_MOMENT (de
 moment_again now le =
     let d = decimal_is_IsNumeral now (omega (arith, le)) in
     let some : nat_eq (length (decimal now)) 0 ≡ false = grind (arith, nat_tests, d.0.0) in
-    let value : number_after 0 MAX_MOMENT 0 (decimal now) ≡ Some (digits_value 10 (decimal now)) = number_again MAX_MOMENT 0 (decimal now) d.0.1 (omega (arith, le, d.1)) in
+    let value : number_from 0 MAX_MOMENT 0 (decimal now) ≡ Some (digits_value 10 (decimal now)) = number_again MAX_MOMENT 0 (decimal now) d.0.1 (omega (arith, le, d.1)) in
     rw some (value ∙ ap Some d.1)
 
 -- ---- a run of bytes that are no spaces is one word
@@ -84,7 +84,7 @@ draws d fits = ap first_is_kind (words_spelled (Draw d) fits)
 -- ---- each line
 
 tick_line : (now : ℕ) → now ≤ MAX_MOMENT → script_line_of (codes "tick " ++ decimal now) ≡ Ok (lines.Call (Tick now))
-unfolding command tick
+unfolding script_command tick
 tick_line now le = rw (ticks (decimal now), number_is_word now (omega (arith, le)), moment_again now le) refl
 
 recorded_as : (line : List ℕ) (words' : Bool) (command' : Command) → script_line_of line ≡ Ok command' → begins_datagram line ≡ words' → (script_line_of line >>= recorded (begins_datagram line)) ≡ recorded words' command'

@@ -4,7 +4,7 @@ use Rattle.std.specs.Prelude.{codes}
 use Rattle.wb_lines.specs.Words.{words}
 use Rattle.wb_dialog.specs.Lines.{call, command, line_of, question, script_or}
 use Rattle.wb_dialog.specs.Laws.{SaidIsRead}
-use Rattle.wb_commands.specs.Parsing.{line_of as script_line_of}
+use Rattle.wb_commands.specs.Parsing.{script_line_of}
 use Rattle.wb_commands.specs.SentLines.{digits_of}
 use Rattle.wb_commands.proofs.SentDigits.{taken}
 

@@ -5,7 +5,7 @@ use Rattle.std.specs.Str.{bytes_eq}
 use Rattle.wb_lines.specs.Words.{words}
 use Rattle.wb_words.specs.Words.{split_once}
 use Rattle.wb_commands.specs.declared.command.Command.{Command}
-use Rattle.wb_commands.specs.Parsing.{line_of as script_line_of}
+use Rattle.wb_commands.specs.Parsing.{script_line_of}
 use Rattle.wb_dialog.specs.declared.line.DriverLine.TheVariants.{Script}
 use Rattle.wb_dialog.specs.Lines.{by_words, said_part, added_part, call, command, question, script_or, line_of_words, line_behind}
 use Rattle.wb_dialog.specs.Laws.{ScriptLinesAreRead}

@@ -14,7 +14,7 @@ use Rattle.wb_member.specs.Opened.{Opened, next_number}
 use Rattle.wb_commands.specs.SentLines.{digits_of}
 use Rattle.wb_dialog.specs.declared.fault.Refusal.{Refusal}
 use Rattle.wb_commands.specs.declared.command.Command.{Command}
-use Rattle.wb_commands.specs.Parsing.{handed_in, line_of as script_line_of}
+use Rattle.wb_commands.specs.Parsing.{handed_in, script_line_of}
 use Rattle.wb_dialog.specs.declared.line.DriverLine.TheVariants.{Script}
 use Rattle.wb_dialog.specs.Lines.{line_of}
 use Rattle.wb_dialog.specs.declared.line.DriverLine.{DriverLine}

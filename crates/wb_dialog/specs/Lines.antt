@@ -23,7 +23,7 @@ use Rattle.wb_commands.specs.declared.fault.LineFault.{LineFault}
 use Rattle.wb_commands.specs.declared.fault.LineFault.TheVariants as faults
 use Rattle.wb_commands.specs.declared.fault.Untaken.{Untaken}
 use Rattle.wb_commands.specs.declared.fault.Untaken.TheVariants as untaken
-use Rattle.wb_commands.specs.Parsing.{or_fault, number, none_of, two_of, four_of, page, datagram, ◌>>=◌, line_of as script_line_of, IsWithin as IsScriptWithin}
+use Rattle.wb_commands.specs.Parsing.{or_fault, number, none_of, two_of, four_of, page, datagram, ◌>>=◌, script_line_of, IsScriptWithin}
 use Rattle.wb_dialog.specs.declared.line.DriverLine.{DriverLine}
 use Rattle.wb_dialog.specs.declared.line.DriverLine.TheVariants.{Script, Say, Keep, Came, Add, Version}
 use Rattle.wb_dialog.specs.declared.fault.Refusal.{Refusal}

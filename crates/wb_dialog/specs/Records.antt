@@ -14,7 +14,7 @@ use Rattle.wb_commands.specs.declared.fault.LineFault.{LineFault}
 use Rattle.wb_commands.specs.declared.fault.LineFault.TheVariants as faults
 use Rattle.wb_commands.specs.declared.fault.Untaken.{Untaken}
 use Rattle.wb_commands.specs.declared.fault.Untaken.TheVariants as untaken
-use Rattle.wb_commands.specs.Parsing.{◌>>=◌, line_of as script_line_of}
+use Rattle.wb_commands.specs.Parsing.{◌>>=◌, script_line_of}
 use Rattle.wb_dialog.specs.Lines.{part_behind}
 use Rattle.wb_judging.specs.declared.record.RecordLine.{RecordLine}
 use Rattle.wb_judging.specs.declared.record.RecordLine.TheVariants as records

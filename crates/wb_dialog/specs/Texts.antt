@@ -9,7 +9,7 @@ use Rattle.wb_codec.specs.declared.datagram.Datagram.{Datagram}
 use Rattle.wb_codec.specs.declared.datagram.Datagram.TheVariants.{Draw, PageState}
 use Rattle.wb_display.specs.Canvas.{row_text}
 use Rattle.wb_words.specs.Spelling.{spelled}
-use Rattle.wb_commands.specs.Answers.{list_text as counted, words_line}
+use Rattle.wb_commands.specs.Answers.{counted_list as counted, drawop_line}
 use Rattle.wb_commands.specs.SentLines.{digits_of, send_line}
 use Rattle.wb_judge.specs.declared.origin.Origin.{Origin}
 use Rattle.wb_judge.specs.declared.others.Other.{Other}
@@ -155,7 +155,7 @@ abbrev pub hidden_line : Target → List ℕ
 hidden_line t = codes "hidden " ++ (decimal t.source ++ (codes " " ++ (decimal t.seq ++ codes "\n")))
 
 abbrev pub shown_line : ShownAt → List ℕ
-shown_line p = (codes "shown " ++ (decimal p.place ++ codes " ")) ++ words_line p.drawop
+shown_line p = (codes "shown " ++ (decimal p.place ++ codes " ")) ++ drawop_line p.drawop
 
 -- how many drawops are held, how many lines follow, and these: first what may be shown no more
 abbrev pub since_text : ℕ → List Target → List ShownAt → List ℕ

@@ -2,7 +2,7 @@
 ghost use Rattle.std.specs.Prelude.{◌≡◌, ◌++◌, OnOk, OnErr};
 ghost use Rattle.wb_member.specs.Holding.{outcome_in};
 ghost use Rattle.wb_commands.specs.Acts.{act};
-ghost use Rattle.wb_commands.specs.Parsing.{IsWithin as IsScriptWithin};
+ghost use Rattle.wb_commands.specs.Parsing.{IsScriptWithin};
 ghost use Rattle.wb_dialog.specs.Lines.{IsWithin};
 ghost use Rattle.wb_commands.specs.SentLines.{send_line};
 ghost use Rattle.wb_dialog.specs.Dialog.{answered, batch_of, goes_out, speaker, says, answer_at};

@@ -12,7 +12,7 @@ unmarked [] ds = []
 unmarked (m ∷ ms) [] = []
 unmarked (m ∷ ms) (d ∷ ds) = cond m (unmarked ms ds) (d ∷ unmarked ms ds)
 
--- there are `n` marks, and those at these places are set
+-- There are `n` marks: those at these places are set, and no others.
 pub record Marks (places : List ℕ) (n : ℕ) (marks : List Bool) : Type 0 where
   pub long : length marks ≡ n
   pub each : (p : ℕ) → p < n → slice_index_or marks p false ≡ has p places

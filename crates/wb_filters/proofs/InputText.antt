@@ -7,13 +7,13 @@ use Rattle.wb_lines.specs.Ahead.{NoLineFeed}
 use Rattle.wb_lines.specs.Input.{InputLine, content, feed, standing}
 use Rattle.wb_lines.proofs.StandingLines.{stripped}
 use Rattle.wb_lines.proofs.LineBytes.{NoLineFeed-push}
-use Rattle.wb_filters.specs.Filtering.{end_of, ending}
+use Rattle.wb_filters.specs.Filtering.{line_end, ending}
 use Rattle.wb_words.proofs.Visible.{Visible, no_return}
 use Rattle.wb_filters.proofs.Visible.{no_feed}
 
 -- ---- the end of a line
 
-ends_so : (bytes text : List ℕ) → (text ≡ bytes) ⊎ (bytes ≡ text ++ 13 ∷ []) → text ++ end_of true text bytes ≡ bytes ++ 10 ∷ []
+ends_so : (bytes text : List ℕ) → (text ≡ bytes) ⊎ (bytes ≡ text ++ 13 ∷ []) → text ++ line_end true text bytes ≡ bytes ++ 10 ∷ []
 ends_so bytes text (inl e) =
     let same : nat_eq (length text) (length bytes) ≡ true = rw e (grind (arith, nat_tests)) in
     rw same (ap (λ (t : List ℕ). t ++ 10 ∷ []) e)

@@ -8,7 +8,7 @@ use Rattle.wb_lines.specs.Taking.{met, is_taken, is_passed}
 use Rattle.wb_lines.specs.Driving.{Outcome, writes, rules_of, before, stop, proceed, outcome_from, IsStopped, Meets}
 use Rattle.wb_filters.specs.declared.fault.LineFault.{LineFault}
 use Rattle.wb_filters.specs.declared.filtering.Filter.{Filter}
-use Rattle.wb_filters.specs.Filtering.{turned, told_on, ending, ended_by, written, filter_step, most_lines, outcome}
+use Rattle.wb_filters.specs.Filtering.{turned, told_on, ending, ended_by, written, filter_step, most_filter_lines, filter_outcome}
 use Rattle.wb_filters.specs.Laws.{NoLineIsRefused}
 
 -- ---- one line
@@ -63,15 +63,15 @@ none_step number (goes text next) rest on none = none_before text (rest next) (n
 none_step number (stops text e) rest on none = absurd on
 none_step number (ends text) rest on none = none_before text (stop (Err faults.Endless)) none_endless
 
-none_from : (cut : Bool) (n : ℕ) (filter : Filter) (lines : List InputLine) → filter.keeps_going ≡ true → NoLine (outcome_from (rules_of filter_step most_lines) cut n filter lines)
+none_from : (cut : Bool) (n : ℕ) (filter : Filter) (lines : List InputLine) → filter.keeps_going ≡ true → NoLine (outcome_from (rules_of filter_step most_filter_lines) cut n filter lines)
 none_from cut n filter [] k = none_end cut n
 none_from cut n filter (line ∷ lines) k =
-    let rest : Filter → Outcome LineFault = λ next. cond (is_passed line) (outcome_from (rules_of filter_step most_lines) cut (n + 1) next lines) (stop (Err faults.Endless)) in
+    let rest : Filter → Outcome LineFault = λ next. cond (is_passed line) (outcome_from (rules_of filter_step most_filter_lines) cut (n + 1) next lines) (stop (Err faults.Endless)) in
     let taken : Outcome LineFault = proceed (n + 1) (filter_step filter (n + 1) (met line)) rest in
-    none_where (nat_lt n most_lines) (cond (is_taken cut line) taken (stop (Err faults.Read))) (stop (Err faults.Endless))
+    none_where (nat_lt n most_filter_lines) (cond (is_taken cut line) taken (stop (Err faults.Read))) (stop (Err faults.Endless))
     (none_where (is_taken cut line) taken (stop (Err faults.Read))
     (none_step (n + 1) (filter_step filter (n + 1) (met line)) rest (keeps_step filter (n + 1) (met line) k)
-    (λ next kept. none_where (is_passed line) (outcome_from (rules_of filter_step most_lines) cut (n + 1) next lines) (stop (Err faults.Endless)) (none_from cut (n + 1) next lines kept) none_endless)) none_read) none_endless
+    (λ next kept. none_where (is_passed line) (outcome_from (rules_of filter_step most_filter_lines) cut (n + 1) next lines) (stop (Err faults.Endless)) (none_from cut (n + 1) next lines kept) none_endless)) none_read) none_endless
 
 pub no_line_is_refused : NoLineIsRefused
 no_line_is_refused filter cut input k = none_from cut 0 filter (input_lines input) k
@@ -82,6 +82,6 @@ met_none : (o : Outcome LineFault) (text : List ℕ) (result : Result ℕ (Drive
 met_none (writes all end) text result none (inl m) number e is = none all number e (ap (writes all) (sym m.1 ∙ is))
 met_none (writes all end) text result none (inr m) number e is = subst (λ (r : Result ℕ (DriveFault LineFault)). IsStopped r) is m.0
 
-pub answers_no_line : (filter : Filter) (cut : Bool) (input text : List ℕ) (result : Result ℕ (DriveFault LineFault)) → Meets (outcome filter cut input) text result → filter.keeps_going ≡ true
+pub answers_no_line : (filter : Filter) (cut : Bool) (input text : List ℕ) (result : Result ℕ (DriveFault LineFault)) → Meets (filter_outcome filter cut input) text result → filter.keeps_going ≡ true
     → (number : ℕ) (e : LineFault) → result ≢ Err (faults.Line number e)
-answers_no_line filter cut input text result m k = met_none (outcome filter cut input) text result (no_line_is_refused filter cut input k) m
+answers_no_line filter cut input text result m k = met_none (filter_outcome filter cut input) text result (no_line_is_refused filter cut input k) m

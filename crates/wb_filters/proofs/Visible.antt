@@ -11,7 +11,7 @@ use Rattle.wb_words.specs.Spelling.{spelled}
 use Rattle.wb_lines.specs.Ahead.{NoLineFeed}
 use Rattle.wb_filters.specs.declared.carrier.Carrier.{Carrier}
 use Rattle.wb_filters.specs.declared.carrier.Carrier.TheVariants.{Arrive, Hear, Send}
-use Rattle.wb_filters.specs.Turning.{front, digits_line, words_behind}
+use Rattle.wb_filters.specs.Turning.{front, digits_line, carried_words}
 use Rattle.wb_codec.proofs.SpelledBytes.{spelled_bytes}
 use Rattle.wb_words.proofs.Visible.{AllSeen, Visible, cat, text_of, spelled_visible}
 
@@ -47,7 +47,7 @@ pub digits_some : (carrier : Carrier) (v : Datagram) → digits_line carrier v �
 digits_some Arrive v = λ h. absurd cc
 digits_some carrier v = λ h. absurd cc
 
-pub words_visible : (carrier : Carrier) (v : Datagram) → IsDatagram v → Visible (words_behind carrier v)
+pub words_visible : (carrier : Carrier) (v : Datagram) → IsDatagram v → Visible (carried_words carrier v)
 words_visible Send v fits = cat (codes "send ") (spelled v) (text_of (codes "send ") refl) (spelled_visible v fits)
 words_visible carrier v fits = spelled_visible v fits
 
@@ -55,6 +55,6 @@ spelled_some : (v : Datagram) → spelled v ≢ []
 spelled_some (Draw d) = λ h. absurd cc
 spelled_some v = λ h. absurd cc
 
-pub words_some : (carrier : Carrier) (v : Datagram) → words_behind carrier v ≢ []
+pub words_some : (carrier : Carrier) (v : Datagram) → carried_words carrier v ≢ []
 words_some Send v = λ h. absurd cc
 words_some carrier v = spelled_some v

@@ -10,11 +10,11 @@ use Rattle.wb_filters.specs.declared.fault.LineFault.{LineFault}
 use Rattle.wb_filters.specs.declared.filtering.Direction.{Direction}
 use Rattle.wb_filters.specs.declared.filtering.Direction.TheVariants.{Hex, Words}
 use Rattle.wb_filters.specs.declared.filtering.Filter.{Filter}
-use Rattle.wb_filters.specs.Turning.{takes, digits_line, words_behind}
+use Rattle.wb_filters.specs.Turning.{may_carry, digits_line, carried_words}
 use Rattle.wb_lines.specs.Driving.{Outcome, writes, rules_of, outcome_from}
 use Rattle.wb_lines.proofs.Outcomes.{short_line_taken}
-use Rattle.wb_filters.specs.Filtering.{turned, told_on, ending, ended_by, said_of, filter_step, most_lines}
-use Rattle.wb_filters.specs.Laws.{IsOther, IsWithinLimits, Turns, WordsComeBack, DigitsComeBack}
+use Rattle.wb_filters.specs.Filtering.{turned, told_on, ending, ended_by, said_of, filter_step, most_filter_lines}
+use Rattle.wb_filters.specs.Laws.{IsOther, IsWithinFilterLimits, Turns, WordsComeBack, DigitsComeBack}
 use Rattle.wb_filters.proofs.TurningLaws.{words_are_turned, digits_are_turned}
 use Rattle.wb_words.proofs.Visible.{Visible}
 use Rattle.wb_filters.proofs.Visible.{digits_visible, digits_some, words_visible, words_some}
@@ -52,17 +52,17 @@ said_back d d' keeps number line twin t =
 
 -- the outcome after n lines, of an input that is not cut off
 abbrev after : Filter → ℕ → List InputLine → Outcome LineFault
-after filter n lines = outcome_from (rules_of filter_step most_lines) false n filter lines
+after filter n lines = outcome_from (rules_of filter_step most_filter_lines) false n filter lines
 
 abbrev IsShort : InputLine → Type 0
 IsShort line = length line.bytes ≤ most_bytes
 
 -- after n lines: where the next one becomes a text, and the others another
-next : (filter : Filter) (n : ℕ) (line : InputLine) (lines : List InputLine) (text rest : List ℕ) (m : ℕ) → n < most_lines → IsShort line → said_of filter (n + 1) line ≡ Ok text → after filter (n + 1) lines ≡ writes rest (Ok m)
+next : (filter : Filter) (n : ℕ) (line : InputLine) (lines : List InputLine) (text rest : List ℕ) (m : ℕ) → n < most_filter_lines → IsShort line → said_of filter (n + 1) line ≡ Ok text → after filter (n + 1) lines ≡ writes rest (Ok m)
     → after filter n (line ∷ lines) ≡ writes (text ++ rest) (Ok m)
-next filter n line lines text rest m few short said others = short_line_taken (rules_of filter_step most_lines) n filter line lines few short ∙ rw (said, others) refl
+next filter n line lines text rest m few short said others = short_line_taken (rules_of filter_step most_filter_lines) n filter line lines few short ∙ rw (said, others) refl
 
-there : (d d' : Direction) (keeps : Bool) (n m : ℕ) (lines twins : List InputLine) → Twins d d' lines twins → n + length lines ≡ m → m ≤ most_lines → All IsShort lines
+there : (d d' : Direction) (keeps : Bool) (n m : ℕ) (lines twins : List InputLine) → Twins d d' lines twins → n + length lines ≡ m → m ≤ most_filter_lines → All IsShort lines
     → after (record { direction = d; keeps_going = keeps }) n lines ≡ writes (all_bytes twins) (Ok m)
 there d d' keeps n m [] [] t count few short = let same : n ≡ m = omega (arith, count) in ap (λ (k : ℕ). writes [] (Ok k)) same
 there d d' keeps n m (line ∷ lines) (twin ∷ twins) t count few short =
@@ -71,7 +71,7 @@ there d d' keeps n m (line ∷ lines) (twin ∷ twins) t count few short =
     (there d d' keeps (n + 1) m lines twins t.1 (omega (arith, count)) few (All-tail IsShort line lines short))
 there d d' keeps n m lines twins t count few short = absurd t
 
-back : (d d' : Direction) (keeps : Bool) (n m : ℕ) (lines twins : List InputLine) → Twins d d' lines twins → n + length twins ≡ m → m ≤ most_lines → All IsShort twins
+back : (d d' : Direction) (keeps : Bool) (n m : ℕ) (lines twins : List InputLine) → Twins d d' lines twins → n + length twins ≡ m → m ≤ most_filter_lines → All IsShort twins
     → after (record { direction = d'; keeps_going = keeps }) n twins ≡ writes (all_bytes lines) (Ok m)
 back d d' keeps n m [] [] t count few short = let same : n ≡ m = omega (arith, count) in ap (λ (k : ℕ). writes [] (Ok k)) same
 back d d' keeps n m (line ∷ lines) (twin ∷ twins) t count few short =
@@ -117,8 +117,8 @@ module _ (d d' : Direction) (Form Form' : List ℕ → Type 0) (one : (line : In
         forms = All-cons (λ (l : InputLine). Form' (content l)) first.twin rest.twins first.form rest.forms;
       }
 
-  comes_back : (keeps keeps' : Bool) (script : List ℕ) → All (λ (line : InputLine). Form (content line)) (input_lines script) → IsWithinLimits script
-      → (text : List ℕ) × Turns d keeps script text × All (λ (line : InputLine). Form' (content line)) (input_lines text) × (IsWithinLimits text → Turns d' keeps' text script)
+  comes_back : (keeps keeps' : Bool) (script : List ℕ) → All (λ (line : InputLine). Form (content line)) (input_lines script) → IsWithinFilterLimits script
+      → (text : List ℕ) × Turns d keeps script text × All (λ (line : InputLine). Form' (content line)) (input_lines text) × (IsWithinFilterLimits text → Turns d' keeps' text script)
   comes_back keeps keeps' script are limits =
       let lines = input_lines script in
       let r = reads script in
@@ -129,7 +129,7 @@ module _ (d d' : Direction) (Form Form' : List ℕ → Type 0) (one : (line : In
         there d d' keeps 0 (length lines) lines found.twins found.pairs (omega arith) limits.0 limits.1,
         subst (All (λ (line : InputLine). Form' (content line))) (sym split) found.forms,
         λ within.
-            let few : length found.twins ≤ most_lines = subst (λ (l : List InputLine). length l ≤ most_lines) split within.0 in
+            let few : length found.twins ≤ most_filter_lines = subst (λ (l : List InputLine). length l ≤ most_filter_lines) split within.0 in
             let short : All IsShort found.twins = subst (All IsShort) split within.1 in
             subst (λ (l : List InputLine). after (record { direction = d'; keeps_going = keeps' }) 0 l ≡ writes script (Ok (length l))) (sym split)
             (back d d' keeps' 0 (length found.twins) lines found.twins found.pairs (omega arith) few short ∙ ap (λ (t : List ℕ). writes t (Ok (length found.twins))) r.bytes-are),
@@ -151,13 +151,13 @@ turns_to d d' line text same p q = record {
 
 -- a datagram in words or in digits, or no line of a datagram
 abbrev IsIn : (Carrier → Datagram → List ℕ) → List ℕ → Type 0
-IsIn form line = ((carrier : Carrier) × (v : Datagram) × IsDatagram v × (takes carrier v ≡ true) × (line ≡ form carrier v)) ⊎ IsOther line
+IsIn form line = ((carrier : Carrier) × (v : Datagram) × IsDatagram v × (may_carry carrier v ≡ true) × (line ≡ form carrier v)) ⊎ IsOther line
 
 -- From the one form each line turns to the other, and back.
 turns_back : (d d' : Direction) (from to : Carrier → Datagram → List ℕ) → ((line : List ℕ) → IsOther line → (turned d line ≡ Ok line) × (turned d' line ≡ Ok line))
     → ((carrier : Carrier) (v : Datagram) → IsDatagram v → Visible (to carrier v)) → ((carrier : Carrier) (v : Datagram) → to carrier v ≢ [])
-    → ((carrier : Carrier) (v : Datagram) → IsDatagram v → takes carrier v ≡ true → turned d (from carrier v) ≡ Ok (to carrier v))
-    → ((carrier : Carrier) (v : Datagram) → IsDatagram v → takes carrier v ≡ true → turned d' (to carrier v) ≡ Ok (from carrier v))
+    → ((carrier : Carrier) (v : Datagram) → IsDatagram v → may_carry carrier v ≡ true → turned d (from carrier v) ≡ Ok (to carrier v))
+    → ((carrier : Carrier) (v : Datagram) → IsDatagram v → may_carry carrier v ≡ true → turned d' (to carrier v) ≡ Ok (from carrier v))
     → (line : InputLine) (others : List InputLine) → Stands line others → IsIn from (content line) → HasTwin d d' (IsIn to) line
 turns_back d d' from to keeps visible some turn back line others s (inr other) =
     let kept = keeps (content line) other in
@@ -171,7 +171,7 @@ turns_back d d' from to keeps visible some turn back line others s (inl (carrier
     }
 
 pub words_come_back : WordsComeBack
-words_come_back = comes_back Hex Words (IsIn words_behind) (IsIn digits_line) (turns_back Hex Words words_behind digits_line (λ line other. other) digits_visible digits_some words_are_turned digits_are_turned)
+words_come_back = comes_back Hex Words (IsIn carried_words) (IsIn digits_line) (turns_back Hex Words carried_words digits_line (λ line other. other) digits_visible digits_some words_are_turned digits_are_turned)
 
 pub digits_come_back : DigitsComeBack
-digits_come_back = comes_back Words Hex (IsIn digits_line) (IsIn words_behind) (turns_back Words Hex digits_line words_behind (λ line other. (other.1, other.0)) words_visible words_some digits_are_turned words_are_turned)
+digits_come_back = comes_back Words Hex (IsIn digits_line) (IsIn carried_words) (turns_back Words Hex digits_line carried_words (λ line other. (other.1, other.0)) words_visible words_some digits_are_turned words_are_turned)

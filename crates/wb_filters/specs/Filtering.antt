@@ -4,7 +4,7 @@ use Rattle.wb_lines.specs.declared.handler.Stop.{Stop}
 use Rattle.wb_lines.specs.declared.handler.Stop.TheVariants as handler_stops
 use Rattle.wb_lines.specs.Input.{InputLine, content}
 use Rattle.wb_lines.specs.Handling.{Met, whole, too_long, Step, goes, stops, ends}
-use Rattle.wb_lines.specs.Driving.{Outcome, rules_of, outcome as outcome_of}
+use Rattle.wb_lines.specs.Driving.{Outcome, rules_of, outcome}
 use Rattle.wb_filters.specs.declared.fault.LineFault.{LineFault}
 use Rattle.wb_filters.specs.declared.filtering.Direction.{Direction}
 use Rattle.wb_filters.specs.declared.filtering.Direction.TheVariants.{Hex, Words}
@@ -24,11 +24,11 @@ told_on keeps number (Ok text) = Ok text
 told_on keeps number (Err e) = if keeps then Ok (comment number e) else Err e
 
 -- What ends a line after its content, which stays as it was: a line feed, before which a carriage return may stand.
-abbrev pub end_of : Bool → List ℕ → List ℕ → List ℕ
-end_of ended content bytes = if ended then (if nat_eq (length content) (length bytes) then 10 ∷ [] else 13 ∷ 10 ∷ []) else []
+abbrev pub line_end : Bool → List ℕ → List ℕ → List ℕ
+line_end ended content bytes = if ended then (if nat_eq (length content) (length bytes) then 10 ∷ [] else 13 ∷ 10 ∷ []) else []
 
 abbrev pub ending : InputLine → List ℕ
-ending line = end_of line.ended (content line) line.bytes
+ending line = line_end line.ended (content line) line.bytes
 
 abbrev pub ended_by : List ℕ → Result (List ℕ) LineFault → Result (List ℕ) LineFault
 ended_by end (Ok text) = Ok (text ++ end)
@@ -51,12 +51,12 @@ filter_step filter number (whole line) = written filter (said_of filter number l
 filter_step filter number too_long = ends []
 
 -- the most lines of an input
-abbrev pub most_lines : ℕ
-most_lines = 2 ^ 64 - 1
+abbrev pub most_filter_lines : ℕ
+most_filter_lines = 2 ^ 64 - 1
 
 -- the outcome of an input, which is cut off if reading fails after it
-abbrev pub outcome : Filter → Bool → List ℕ → Outcome LineFault
-outcome filter cut input = outcome_of (rules_of filter_step most_lines) cut filter input
+abbrev pub filter_outcome : Filter → Bool → List ℕ → Outcome LineFault
+filter_outcome filter cut input = outcome (rules_of filter_step most_filter_lines) cut filter input
 
 -- ---- what the code answers
 

@@ -38,15 +38,15 @@ front Arrive = codes "arrive "
 front Hear = codes "hear "
 front Send = codes "send "
 
-abbrev pub is_arrival : Datagram → Bool
-is_arrival (Draw d) = true
-is_arrival v = false
+abbrev pub is_draw : Datagram → Bool
+is_draw (Draw d) = true
+is_draw v = false
 
 -- drawops alone arrive, what is heard is none, and each datagram may be sent
-abbrev pub takes : Carrier → Datagram → Bool
-takes Arrive v = is_arrival v
-takes Hear v = if is_arrival v then false else true
-takes Send v = true
+abbrev pub may_carry : Carrier → Datagram → Bool
+may_carry Arrive v = is_draw v
+may_carry Hear v = if is_draw v then false else true
+may_carry Send v = true
 
 -- the line that carries a datagram
 abbrev pub digits_line : Carrier → Datagram → List ℕ
@@ -55,9 +55,9 @@ digits_line carrier v = front carrier ++ encode_lower (spelling v)
 -- ---- lines in words
 
 -- the words of a datagram, after `send` if it is sent
-abbrev pub words_behind : Carrier → Datagram → List ℕ
-words_behind Send v = codes "send " ++ spelled v
-words_behind carrier v = spelled v
+abbrev pub carried_words : Carrier → Datagram → List ℕ
+carried_words Send v = codes "send " ++ spelled v
+carried_words carrier v = spelled v
 
 -- ---- from words to digits
 
@@ -89,9 +89,9 @@ hexed line = hexed_by line (sent_part (split_once 32 line))
 -- ---- from digits to words
 
 -- what the bytes say
-abbrev pub told : Carrier → Result Datagram ReadFault → Result (List ℕ) LineFault
-told carrier (Ok v) = if takes carrier v then Ok (words_behind carrier v) else Err (faults.Digits digit_faults.Kind)
-told carrier (Err e) = Err (faults.Digits (digit_faults.Datagram e))
+abbrev pub worded_as : Carrier → Result Datagram ReadFault → Result (List ℕ) LineFault
+worded_as carrier (Ok v) = if may_carry carrier v then Ok (carried_words carrier v) else Err (faults.Digits digit_faults.Kind)
+worded_as carrier (Err e) = Err (faults.Digits (digit_faults.Datagram e))
 
 -- One word that is no even number of digits is wrong. A line of more words carries nothing, and stays.
 abbrev pub without_digits : List ℕ → List ℕ → Result (List ℕ) LineFault
@@ -99,7 +99,7 @@ without_digits line rest = if is_some (split_once 32 rest) then Ok line else Err
 
 abbrev pub worded_digits : List ℕ → List ℕ → Carrier → Option (List ℕ) → Result (List ℕ) LineFault
 worded_digits line rest carrier None = without_digits line rest
-worded_digits line rest carrier (Some bytes) = told carrier (reading bytes)
+worded_digits line rest carrier (Some bytes) = worded_as carrier (reading bytes)
 
 abbrev pub worded_by : List ℕ → List ℕ → Option Carrier → Result (List ℕ) LineFault
 worded_by line rest None = Ok line

@@ -1,7 +1,7 @@
 //! What a line does with the datagram that it carries.
 
 ghost use Rattle.std.specs.Prelude.{◌≡◌};
-ghost use Rattle.wb_filters.specs.Turning.{carrier_of, carrier_for, front, takes};
+ghost use Rattle.wb_filters.specs.Turning.{carrier_of, carrier_for, front, may_carry};
 
 use wb_codec::Datagram;
 
@@ -54,7 +54,7 @@ pub(crate) fn front(carrier: Carrier) -> &'static [u8]
 
 /// Whether its lines take a datagram of this kind.
 pub(crate) fn takes(carrier: Carrier, datagram: &Datagram) -> bool
-    ensures { result ≡ takes carrier datagram.now }
+    ensures { result ≡ may_carry carrier datagram.now }
 {
     match (carrier, datagram) {
         (Carrier::Send, _) => true,

@@ -4,7 +4,7 @@ ghost use Rattle.std.specs.Prelude.{◌≡◌, ◌≢◌, List, ℕ, true, Err};
 ghost use Rattle.std.specs.Io.KnownBytes.{Appends};
 ghost use Rattle.wb_lines.specs.declared.fault.DriveFault.TheVariants as faults;
 ghost use Rattle.wb_lines.specs.Driving.{Gave, Meets};
-ghost use Rattle.wb_filters.specs.Filtering.{turned, told_on, end_of, outcome, MayAnswer};
+ghost use Rattle.wb_filters.specs.Filtering.{turned, told_on, line_end, filter_outcome, MayAnswer};
 ghost use Rattle.wb_filters.specs.Turning.{MayTurn};
 
 use crate::comment::comment;
@@ -66,7 +66,7 @@ fn answer(
 
 /// What follows the content of a line.
 fn ending(line: &[u8], content: &[u8], ended: bool) -> &'static [u8]
-    ensures { result.now ≡ end_of ended content.now line.now }
+    ensures { result.now ≡ line_end ended content.now line.now }
 {
     if !ended {
         b""
@@ -130,7 +130,7 @@ pub fn run_filter<R: Source, W: Sink>(
     ensures lines { (input : List ℕ) × (written : List ℕ)
         × Gave (R.left source.old) (R.left source.new) (R.has_failed source.new) input
         × Appends (W.taken sink.old) (W.taken sink.new) written
-        × Meets (outcome filter (R.has_failed source.new) input) written result }
+        × Meets (filter_outcome filter (R.has_failed source.new) input) written result }
     ensures keeps { filter.keeps_going ≡ true → (number : ℕ) (fault : LineFault) →
         result ≢ Err (faults.Line number fault) }
     ensures read { result ≡ Err faults.Read → R.has_failed source.new ≡ true }

@@ -2,7 +2,7 @@
 
 ghost use Rattle.std.specs.Prelude.{◌≡◌, IfOk};
 ghost use Rattle.wb_codec.specs.Reading.{reading};
-ghost use Rattle.wb_filters.specs.Turning.{MayTurn, words_behind, told, without_digits, worded};
+ghost use Rattle.wb_filters.specs.Turning.{MayTurn, carried_words, worded_as, without_digits, worded};
 
 use crate::carrier::{Carrier, carrier_of, takes};
 use crate::fault::{LineFault, TurnFault};
@@ -14,7 +14,7 @@ use wb_words::{DigitsFault, split_once, write_words};
 
 /// The words of a datagram, after `send` if it is sent.
 fn words_behind(alloc: Global, carrier: Carrier, datagram: &Datagram) -> Result<Vec<u8>, AllocError>
-    ensures { IfOk result (λ line. line.items ≡ words_behind carrier datagram.now) }
+    ensures { IfOk result (λ line. line.items ≡ carried_words carrier datagram.now) }
 {
     let words = write_words(alloc, datagram)?;
     match carrier {
@@ -30,7 +30,7 @@ fn words_behind(alloc: Global, carrier: Carrier, datagram: &Datagram) -> Result<
 
 /// What the bytes that a line carries say.
 fn told(alloc: Global, carrier: Carrier, bytes: &[u8]) -> Result<Vec<u8>, TurnFault>
-    ensures { MayTurn (λ text. text.items) result (told carrier (reading bytes.now)) }
+    ensures { MayTurn (λ text. text.items) result (worded_as carrier (reading bytes.now)) }
 {
     match read(alloc, bytes) {
         Ok(datagram) => {

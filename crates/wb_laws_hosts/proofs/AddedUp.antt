@@ -22,14 +22,14 @@ use Rattle.wb_commands.specs.Answers.{batch_line}
 use Rattle.wb_commands.specs.declared.command.Command.{Command}
 use Rattle.wb_commands.specs.declared.command.Command.TheVariants as lines
 use Rattle.wb_commands.specs.declared.fault.LineFault.{LineFault}
-use Rattle.wb_commands.specs.Parsing.{line_of as script_line_of}
+use Rattle.wb_commands.specs.Parsing.{script_line_of}
 use Rattle.wb_keeper.specs.Keeper.{KeeperCall, Arrive, holds}
 use Rattle.wb_keeper.proofs.KeptCalls.{holds_one_more}
 use Rattle.wb_member.specs.Members.{names_of}
 use Rattle.wb_member.specs.Opened.{Opened, opened_with, accepted, becomes, present}
 use Rattle.wb_script.specs.Hosts.{taken, script_constants}
 use Rattle.wb_script.specs.declared.fault.RunFault.TheVariants as run_faults
-use Rattle.wb_script.specs.Script.{State as Board, start, after_batch, Closing, Acts, Part, Arrival, Nothing, End, part_of, part_in, Step, goes, refused, step_by, said_step, Outcome, prints, before, finish, proceed, continue, most_lines, outcome_from, outcome}
+use Rattle.wb_script.specs.Script.{RunState as Board, run_start, after_batch, Closing, Acts, Part, Arrival, Nothing, End, part_of, part_in, RunStep, moves_on, refused, step_by, said_step, RunOutcome, prints, printed_before, finish, follow_step, continue, most_lines, run_outcome_from, run_outcome}
 use Rattle.wb_script.proofs.FreeArrivals.{batches_are_one}
 use Rattle.wb_script.proofs.ReorderedScripts.{workers_are_one_thread}
 use Rattle.wb_script.proofs.Members.{Among}
@@ -39,7 +39,7 @@ use Rattle.wb_script.proofs.Telling.{taken_alone}
 use Rattle.wb_dialog.specs.declared.line.DriverLine.TheVariants.{Script}
 use Rattle.wb_dialog.specs.Dialog.{State, Answer, gives, answered, arrives, answer_to, answer_of, block, state_after, blocks_from, answered_lines, due}
 use Rattle.wb_dialog.proofs.DrivenHosts.{AreGiven, blocks_given}
-use Rattle.wb_laws_hosts.specs.RunLaws.{IsAddedUp, AddsUp, counted_text, counted_with, PrintsAddedUp, IsTold, ThreadIsTold, RunIsTold}
+use Rattle.wb_laws_hosts.specs.RunLaws.{IsAddedUp, AddsUp, counted_text, counted_with, PrintsAddedUp, IsRunTold, ThreadIsTold, RunIsTold}
 use Rattle.wb_laws_hosts.proofs.RunTexts.{board, closing, answer_is, closing_again, neither}
 
 -- ---- counts
@@ -210,10 +210,10 @@ abbrev so_far_at : Board → Option Counts
 so_far_at s = so_far s.host s.waiting
 
 -- A step of a script at a line that is such a part of its batch does as the answer of that host.
-abbrev DoesSo : Part → Board → Answer → Step → Type 0
-DoesSo (Arrival d) s a (goes t text) = (other : Option Opened) × (n : Counts) × (a ≡ gives other (batch_line n)) × (text ≡ []) × (so_far_at t ≡ Some (counted_with (so_far_at s) n)) × IsBeside t other
-DoesSo Nothing s a (goes t text) = (other : Option Opened) × (a ≡ gives other []) × (text ≡ []) × (so_far_at t ≡ so_far_at s) × IsBeside t other
-DoesSo (End c) s a (goes t text) = (other : Option Opened) × (printed : List ℕ) × (a ≡ gives other printed) × (text ≡ counted_text (so_far_at s) ++ printed) × (so_far_at t ≡ None) × IsBeside t other
+abbrev DoesSo : Part → Board → Answer → RunStep → Type 0
+DoesSo (Arrival d) s a (moves_on t text) = (other : Option Opened) × (n : Counts) × (a ≡ gives other (batch_line n)) × (text ≡ []) × (so_far_at t ≡ Some (counted_with (so_far_at s) n)) × IsBeside t other
+DoesSo Nothing s a (moves_on t text) = (other : Option Opened) × (a ≡ gives other []) × (text ≡ []) × (so_far_at t ≡ so_far_at s) × IsBeside t other
+DoesSo (End c) s a (moves_on t text) = (other : Option Opened) × (printed : List ℕ) × (a ≡ gives other printed) × (text ≡ counted_text (so_far_at s) ++ printed) × (so_far_at t ≡ None) × IsBeside t other
 DoesSo part s a (refused t text e) = text ++ closing t ≡ counted_text (so_far_at s)
 
 closing_is : (k : Option ℕ) (host : Option Opened) (waiting : List DrawopValue) → closing (board k host waiting) ≡ counted_text (so_far host waiting)
@@ -237,7 +237,7 @@ acts_so k host waiting other c line h =
     done_so k host waiting c (act line next) (act line other) (subst (λ (g : Opened). DoRetold (act line next) (act line g)) (sym h.is) (act_retold next h.calls h.alike line))
 
 arrives_so : (k : Option ℕ) (host : Opened) (waiting : List DrawopValue) (other : Opened) (d : DrawopValue) → HostsRetold (taken waiting host) other
-    → DoesSo (Arrival d) (board k (Some host) waiting) (arrives d other) (goes (board k (Some host) (waiting ++ d ∷ [])) [])
+    → DoesSo (Arrival d) (board k (Some host) waiting) (arrives d other) (moves_on (board k (Some host) (waiting ++ d ∷ [])) [])
 arrives_so k host waiting other d h = (
   Some (accepted d other),
   counts_of (becomes d other ∷ []),
@@ -288,7 +288,7 @@ module _ (s t : Board) (other : Option Opened) (line : InputLine) (x : List ℕ)
     ((next, printed, is), subst (λ (a : Answer). AreGiven (state_after (driven other) a) lines) (sym is) given),
   )
 
-  goes_on : (part : Part) → part_in line ≡ part → DoesSo part s here (goes t x) → GoesOn s t other line x
+  goes_on : (part : Part) → part_in line ≡ part → DoesSo part s here (moves_on t x) → GoesOn s t other line x
   goes_on (Arrival d) part_is p = record {
     next = p.0;
     beside = p.5;
@@ -321,7 +321,7 @@ module _ (s t : Board) (other : Option Opened) (line : InputLine) (x : List ℕ)
   }
 
 -- At the end of the lines, a text is what the blocks of all that are answered print; where a line is refused, what those before it print.
-abbrev Agrees : Bool → ℕ → Board → Option Opened → List InputLine → Outcome → Type 0
+abbrev Agrees : Bool → ℕ → Board → Option Opened → List InputLine → RunOutcome → Type 0
 Agrees cut n s other lines (prints text (Ok summary)) = Follows s other (answered_lines cut lines) text
 Agrees cut n s other lines (prints text (Err run_faults.Read)) = Follows s other (answered_lines cut lines) text
 Agrees cut n s other lines (prints text (Err (run_faults.Line number e))) = (front : List InputLine) × (behind : List InputLine) × (lines ≡ front ++ behind) × (number ≡ n + length front + 1) × Follows s other front text
@@ -334,7 +334,7 @@ module _ (s t : Board) (other : Option Opened) (line : InputLine) (x : List ℕ)
   all_follow : (cut : Bool) (lines : List InputLine) (text : List ℕ) → is_taken cut line ≡ true → Follows t g.next (answered_lines cut lines) text → Follows s other (answered_lines cut (line ∷ lines)) (x ++ text)
   all_follow cut lines text taken f = subst (λ (b : Bool). Follows s other (if b then line ∷ answered_lines cut lines else []) (x ++ text)) (sym taken) (g.on (answered_lines cut lines) text f)
 
-  agrees_on : (cut : Bool) (n : ℕ) (lines : List InputLine) (o : Outcome) → is_taken cut line ≡ true → Agrees cut (n + 1) t g.next lines o → Agrees cut n s other (line ∷ lines) (before x o)
+  agrees_on : (cut : Bool) (n : ℕ) (lines : List InputLine) (o : RunOutcome) → is_taken cut line ≡ true → Agrees cut (n + 1) t g.next lines o → Agrees cut n s other (line ∷ lines) (printed_before x o)
   agrees_on cut n lines (prints text (Ok summary)) taken f = all_follow cut lines text taken f
   agrees_on cut n lines (prints text (Err run_faults.Read)) taken f = all_follow cut lines text taken f
   agrees_on cut n lines (prints text (Err (run_faults.Line number e))) taken f = (
@@ -350,22 +350,22 @@ module _ (s t : Board) (other : Option Opened) (line : InputLine) (x : List ℕ)
   agrees_on cut n lines (prints text (Err run_faults.Endless)) taken f = tt
 
 refused_here : (cut : Bool) (n : ℕ) (s t : Board) (other : Option Opened) (lines : List InputLine) (text : List ℕ) (e : LineFault) → text ++ closing t ≡ counted_text (so_far_at s)
-    → Agrees cut n s other lines (before text (finish t t.waiting (Err (run_faults.Line (n + 1) e))))
+    → Agrees cut n s other lines (printed_before text (finish t t.waiting (Err (run_faults.Line (n + 1) e))))
 refused_here cut n s t other lines text e shift = ([], lines, refl, omega arith, (shift, tt))
 
 none_follows : (s : Board) (other : Option Opened) → Follows s other [] (closing s)
 none_follows s other = (closing_is s.workers s.host s.waiting, tt)
 
-step_so : (cut : Bool) (n : ℕ) (s : Board) (other : Option Opened) (line : InputLine) (lines : List InputLine) (part : Part) (step : Step) (rest : Board → Outcome) → part_in line ≡ part → is_taken cut line ≡ true
-    → DoesSo part s (answer_of (driven other) (met line)) step → ((t : Board) (next : Option Opened) → IsBeside t next → Agrees cut (n + 1) t next lines (rest t)) → Agrees cut n s other (line ∷ lines) (proceed (n + 1) step rest)
-step_so cut n s other line lines part (goes t x) rest part_is taken so on = let g = goes_on s t other line x part part_is so in agrees_on s t other line x g cut n lines (rest t) taken (on t g.next g.beside)
+step_so : (cut : Bool) (n : ℕ) (s : Board) (other : Option Opened) (line : InputLine) (lines : List InputLine) (part : Part) (step : RunStep) (rest : Board → RunOutcome) → part_in line ≡ part → is_taken cut line ≡ true
+    → DoesSo part s (answer_of (driven other) (met line)) step → ((t : Board) (next : Option Opened) → IsBeside t next → Agrees cut (n + 1) t next lines (rest t)) → Agrees cut n s other (line ∷ lines) (follow_step (n + 1) step rest)
+step_so cut n s other line lines part (moves_on t x) rest part_is taken so on = let g = goes_on s t other line x part part_is so in agrees_on s t other line x g cut n lines (rest t) taken (on t g.next g.beside)
 step_so cut n s other line lines (Arrival d) (refused t x e) rest part_is taken so on = refused_here cut n s t other (line ∷ lines) x e so
 step_so cut n s other line lines Nothing (refused t x e) rest part_is taken so on = refused_here cut n s t other (line ∷ lines) x e so
 step_so cut n s other line lines (End c) (refused t x e) rest part_is taken so on = refused_here cut n s t other (line ∷ lines) x e so
 
-module _ (cut : Bool) (n : ℕ) (s : Board) (other : Option Opened) (line : InputLine) (lines : List InputLine) (rest : Board → Outcome) (beside : IsBeside s other)
+module _ (cut : Bool) (n : ℕ) (s : Board) (other : Option Opened) (line : InputLine) (lines : List InputLine) (rest : Board → RunOutcome) (beside : IsBeside s other)
     (on : (t : Board) (next : Option Opened) → IsBeside t next → Agrees cut (n + 1) t next lines (rest t)) where
-  takes : (said : Result Command LineFault) → script_line_of (content line) ≡ said → is_short line ≡ true → is_taken cut line ≡ true → Agrees cut n s other (line ∷ lines) (proceed (n + 1) (said_step s s.waiting said) rest)
+  takes : (said : Result Command LineFault) → script_line_of (content line) ≡ said → is_short line ≡ true → is_taken cut line ≡ true → Agrees cut n s other (line ∷ lines) (follow_step (n + 1) (said_step s s.waiting said) rest)
   takes (Err e) is short taken = refused_here cut n s (after_batch s s.waiting) other (line ∷ lines) (closing s) e (closing_again s ∙ closing_is s.workers s.host s.waiting)
   takes (Ok said) is short taken =
       step_so cut n s other line lines (part_of (Ok said)) (said_step s s.waiting (Ok said)) rest (ap part_of is) taken
@@ -383,10 +383,10 @@ at_end : (cut : Bool) (n : ℕ) (s : Board) (other : Option Opened) → Agrees c
 at_end true n s other = none_follows s other
 at_end false n s other = none_follows s other
 
-agrees : (cut : Bool) (n : ℕ) (s : Board) (other : Option Opened) (lines : List InputLine) → IsBeside s other → Agrees cut n s other lines (outcome_from cut n s lines)
+agrees : (cut : Bool) (n : ℕ) (s : Board) (other : Option Opened) (lines : List InputLine) → IsBeside s other → Agrees cut n s other lines (run_outcome_from cut n s lines)
 agrees cut n s other [] beside = at_end cut n s other
 agrees cut n s other (line ∷ lines) beside =
-    agrees_line cut n s other line lines (λ t. outcome_from cut (n + 1) t lines) beside (λ t next b. agrees cut (n + 1) t next lines b)
+    agrees_line cut n s other line lines (λ t. run_outcome_from cut (n + 1) t lines) beside (λ t next b. agrees cut (n + 1) t next lines b)
     (nat_lt n most_lines && nat_le (length line.bytes) most_bytes) (line.ended || not cut) refl refl
 
 -- ---- whole scripts
@@ -401,7 +401,7 @@ refused_told input text number front behind is many told =
     let same : take (number - 1) (input_lines input) ≡ front = ap (λ (k : ℕ). take k (input_lines input)) count ∙ ap (take (length front)) is ∙ take-append_seam front behind in
     subst (λ (lines : List InputLine). PrintsAddedUp lines text) (sym same) told
 
-told_so : (workers : Option ℕ) (cut : Bool) (input : List ℕ) (o : Outcome) → Agrees cut 0 (start workers) None (input_lines input) o → IsTold cut input o
+told_so : (workers : Option ℕ) (cut : Bool) (input : List ℕ) (o : RunOutcome) → Agrees cut 0 (run_start workers) None (input_lines input) o → IsRunTold cut input o
 told_so workers cut input (prints text (Ok summary)) f = printed_whole (answered_lines cut (input_lines input)) text f.0 f.1
 told_so workers cut input (prints text (Err run_faults.Read)) f = printed_whole (answered_lines cut (input_lines input)) text f.0 f.1
 told_so workers cut input (prints text (Err (run_faults.Line number e))) f = refused_told input text number f.0 f.1 f.2 f.3 (printed_whole f.0 text f.4.0 f.4.1)
@@ -411,9 +411,9 @@ told_so workers cut input (prints text (Err run_faults.Start)) f = tt
 told_so workers cut input (prints text (Err run_faults.Endless)) f = tt
 
 pub thread_is_told : ThreadIsTold
-thread_is_told workers cut input = told_so workers cut input (outcome workers cut input) (agrees cut 0 (start workers) None (input_lines input) tt)
+thread_is_told workers cut input = told_so workers cut input (run_outcome workers cut input) (agrees cut 0 (run_start workers) None (input_lines input) tt)
 
 pub run_is_told : RunIsTold
 run_is_told workers cut input o h =
     let other = workers_are_one_thread workers cut input o h in
-    (other.0, other.1, subst (IsTold cut other.0) (sym other.2) (thread_is_told workers cut other.0))
+    (other.0, other.1, subst (IsRunTold cut other.0) (sym other.2) (thread_is_told workers cut other.0))

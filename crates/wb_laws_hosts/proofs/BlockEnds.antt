@@ -19,7 +19,7 @@ use Rattle.wb_dialog.specs.Doing.{text_in}
 use Rattle.wb_dialog.specs.Hosting.{Host, Driven, Kept, Reply, prints, denies, came_text, hosting_from, reply_of, unopened, unsent_text}
 use Rattle.wb_laws_hosts.specs.Closings.{AreOneLine, IsNoShow, HoldsLines, BlocksCloseOnce, InputsCloseOnce, SessionsCloseOnce}
 use Rattle.wb_laws_hosts.specs.Telling.{told_at, told_by, told_driven, told_first, told_in_script, told_kept, told_of, told_said, told_saying}
-use Rattle.wb_laws_hosts.specs.Texts.{hosting_at, sent_at}
+use Rattle.wb_laws_hosts.specs.Texts.{hosting_at, sent_for_line}
 use Rattle.wb_laws_hosts.proofs.PlainLines.{Plain, none, both, plain_rules, whole}
 use Rattle.wb_laws_hosts.proofs.PlainTexts as texts
 use Rattle.wb_laws_hosts.proofs.Ranges.{hosts_hold_lines, sessions_hold_lines}
@@ -82,7 +82,7 @@ pub blocks_close_once : BlocksCloseOnce
 blocks_close_once s line held shows =
     let told = told_at s line in
     let told_is_plain : Plain told = by_plain (reply_of s (met line)) (told_said s.host (says_line (met line))) (said_plain s.host (says_line (met line)) held shows) in
-    whole (text_in (reply_of s (met line))) (subst Plain (sym (texts_tell_sends s line)) (both (sends_text (sent_at s line)) told (texts.sends (sent_at s line)) told_is_plain))
+    whole (text_in (reply_of s (met line))) (subst Plain (sym (texts_tell_sends s line)) (both (sends_text (sent_for_line s line)) told (texts.sends (sent_for_line s line)) told_is_plain))
 
 pub inputs_close_once : InputsCloseOnce
 inputs_close_once tuning older line shows = blocks_close_once (hosting_from (unopened tuning) older) line (hosts_hold_lines tuning older) shows

@@ -22,8 +22,8 @@ use Rattle.wb_dialog.specs.Hosting.{Host, Driven, Kept}
 use Rattle.wb_laws_sessions.specs.Sessions.{sent_by_deeds}
 use Rattle.wb_laws_sessions.specs.Members.{Deed, after_deed, sent_by_deed}
 use Rattle.wb_laws_sessions.proofs.Sent.{deed_sends, sent_was_held}
-use Rattle.wb_laws_hosts.specs.Laws.{BytesTellDrawops, HandsIn, WasSent}
-use Rattle.wb_laws_hosts.specs.Texts.{deeds_at, hosting_at, sent_at, sent_at_host, steps_of_texts}
+use Rattle.wb_laws_hosts.specs.Laws.{BytesTellDrawops, HandsIn, WasSentByLine}
+use Rattle.wb_laws_hosts.specs.Texts.{deeds_at, hosting_at, sent_for_line, sent_at_host, steps_of_texts}
 use Rattle.wb_laws_hosts.proofs.DriverLines.{handed_has, says_fits}
 use Rattle.wb_laws_hosts.proofs.Ranges.{EachBrings, Holds, InRange, deed_in_range, hosts_hold, line_brings}
 use Rattle.wb_laws_hosts.proofs.Said.{was_sent}
@@ -87,10 +87,10 @@ handed_fits line d hands = ⊎_elim
 pub bytes_tell_drawops : BytesTellDrawops
 bytes_tell_drawops numbers events line d numbered hands out =
     let s = hosting_at out.older out.e.place in
-    let sent = sent_at s out.line in
+    let sent = sent_for_line s out.line in
     let a = Any-from_map send_line sent (send_line (datagrams.Draw d)) out.out in
     let there : Contains sent a.1 = (a.0, a.2, a.3) in
     let fits : (x : DrawopValue) → a.1 ≡ datagrams.Draw x → IsDrawop x = λ x is. sent_fits s.host (deeds_at s out.line) (hosts_hold out.older out.e.place) (line_brings s out.line (hosts_hold out.older out.e.place)) x (subst (Contains sent) is there) in
     let is = drawop_is a.1 d (handed_fits line d hands) fits a.4 in
-    let w : WasSent events (datagrams.Draw d) = record { newer = out.newer; e = out.e; older = out.older; split = out.split; line = out.line; takes = out.takes; out = subst (Contains sent) is there } in
+    let w : WasSentByLine events (datagrams.Draw d) = record { newer = out.newer; e = out.e; older = out.older; split = out.split; line = out.line; takes = out.takes; out = subst (Contains sent) is there } in
     sent_was_held numbers (steps_of_texts events) d (was_sent numbers events numbered (datagrams.Draw d) w)

@@ -29,7 +29,7 @@ use Rattle.wb_laws_machines.specs.Honest.{AreApart}
 use Rattle.wb_laws_sessions.proofs.Several.{arrival_never_clashes, drawing_never_clashes}
 use Rattle.wb_laws_hosts.specs.Laws.{BatchesCountNoClash, HandsIn}
 use Rattle.wb_laws_hosts.specs.Telling.{told_by, told_of, told_said}
-use Rattle.wb_laws_hosts.specs.Texts.{Event, IsMemberAt, deeds_by, deeds_doing, deeds_of, deeds_of_event, deeds_said, hosting_at, steps_of_texts}
+use Rattle.wb_laws_hosts.specs.Texts.{TextEvent, IsMemberAt, deeds_by, deeds_doing, deeds_of_line, deeds_of_event, deeds_said, hosting_at, steps_of_texts}
 use Rattle.wb_laws_hosts.proofs.ReportTexts.{digit_0, digit_1, differ}
 use Rattle.wb_laws_hosts.proofs.TextSessions.{texts_are_sessions}
 
@@ -118,7 +118,7 @@ module _ (numbers : ℕ → ℕ) (place : ℕ) (older : List Step) (apart : AreA
   none_drawn d deeds host is honest c clash = drawing_never_clashes numbers 0 place deeds older apart honest d clash.0 c (ap (becomes d) (sym is) ∙ clash.1)
 
   abbrev NoClash : Option Host → DriverLine → Type 0
-  NoClash s line = IsMemberAt there s → Honest (deeds_of tuning s line) → told_of s line ≡ batch_of (became.Clash k) → ⊥
+  NoClash s line = IsMemberAt there s → Honest (deeds_of_line tuning s line) → told_of s line ≡ batch_of (became.Clash k) → ⊥
 
   handed : (d : DrawopValue) (s : Option Host) → NoClash s (Script (lines.Arrive d))
   handed d None is honest e = no_text k e
@@ -143,7 +143,7 @@ module _ (numbers : ℕ → ℕ) (place : ℕ) (older : List Step) (apart : AreA
       none_drawn d (deeds_doing (adds a.moment a.page a.time a.op) it) it.host is honest (adds_says a it) (only_clash_unsent k (becomes d it.host) e)
 
   -- a line that is refused tells nothing
-  given : (s : Option Host) (line : DriverLine) (r : Reply) → NoClash s line → IsMemberAt there s → Honest (deeds_by r (deeds_of tuning s line)) → told_by r (told_of s line) ≡ batch_of (became.Clash k) → ⊥
+  given : (s : Option Host) (line : DriverLine) (r : Reply) → NoClash s line → IsMemberAt there s → Honest (deeds_by r (deeds_of_line tuning s line)) → told_by r (told_of s line) ≡ batch_of (became.Clash k) → ⊥
   given s line (prints next text) none is honest e = none is honest e
   given s line (denies fault) none is honest e = no_text k e
 
@@ -157,7 +157,7 @@ batches_count_no_clash numbers older e line k apart numbered honest is brings to
     let s = hosting_at older e.place in
     let steps = steps_of_texts older in
     let there = texts_are_sessions numbers older numbered.1 e.place in
-    let now = subst (λ (event : Event). AreHonest numbers (steps_then 0 e.place (deeds_of_event event s) steps)) is honest in
+    let now = subst (λ (event : TextEvent). AreHonest numbers (steps_then 0 e.place (deeds_of_event event s) steps)) is honest in
     let none = λ (said_line : DriverLine) (same : says_line (met line) ≡ Ok said_line) (free : NoClash numbers e.place steps apart s.tuning k s.host said_line).
     by_line numbers e.place steps apart s.tuning k s.host said_line (says_line (met line)) same free there now told in
     ⊎_elim

@@ -16,7 +16,7 @@ use Rattle.wb_words.specs.declared.adding.Adding.{Adding}
 use Rattle.wb_words.specs.declared.fault.WrongWord.{WrongWord}
 use Rattle.wb_words.proofs.LineLaws.{reading_takes}
 use Rattle.wb_words.proofs.Splitting.{NoSpaces-words}
-use Rattle.wb_commands.specs.Parsing.{number, none_of, two_of, or_fault, datagram, handed_in, line_of as script_line_of}
+use Rattle.wb_commands.specs.Parsing.{number, none_of, two_of, or_fault, datagram, handed_in, script_line_of}
 use Rattle.wb_commands.specs.declared.command.Command.{Command}
 use Rattle.wb_commands.specs.declared.command.Command.TheVariants as lines
 use Rattle.wb_member.specs.declared.calls.Call.{Call}

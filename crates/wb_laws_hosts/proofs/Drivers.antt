@@ -31,8 +31,8 @@ use Rattle.wb_laws_sessions.specs.Members.{Deed, Does}
 use Rattle.wb_laws_sessions.proofs.Honest.{IsGiven, drawing_is_honest, given_is_honest, opening_is_honest}
 use Rattle.wb_laws_sessions.proofs.Several.{number_at}
 use Rattle.wb_laws_kept.proofs.Honest.{adds_honest, came_given, lines_honest, ticks_given}
-use Rattle.wb_laws_hosts.specs.Drivers.{HonestReportsTellShows, IsHeldOrNext, IsHonestLine, KnowsItsOwn, LinesAreHonestSteps}
-use Rattle.wb_laws_hosts.specs.Texts.{Event, EventAt, HaveNumbers, IsMemberAt, Starts, Takes, deeds_by, deeds_doing, deeds_driven, deeds_first, deeds_kept, deeds_of_event, deeds_said, hosting_at, steps_of_texts}
+use Rattle.wb_laws_hosts.specs.Drivers.{HonestReportsTellShows, IsHeldOrNext, IsHonestLine, HostKnowsItsOwn, LinesAreHonestSteps}
+use Rattle.wb_laws_hosts.specs.Texts.{TextEvent, EventAt, HaveNumbers, IsMemberAt, Starts, Takes, deeds_by, deeds_doing, deeds_driven, deeds_first, deeds_kept, deeds_of_event, deeds_said, hosting_at, steps_of_texts}
 use Rattle.wb_laws_hosts.proofs.Agreeing.{reports_tell_shows}
 use Rattle.wb_laws_hosts.proofs.DriverLines as drivers
 use Rattle.wb_laws_hosts.proofs.DriverLines.{met_fits}
@@ -104,7 +104,7 @@ module _ (numbers : ℕ → ℕ) (place : ℕ) (older : List Step) (honest : Are
 
     -- ---- at a self-managing host
 
-    module _ (k : Keeping) (there : host_at numbers older place ≡ k.host) (knows : (a : Adding) → line ≡ Add a → KnowsItsOwn (drawn_at numbers older place) (Some (Kept k)) a.page) where
+    module _ (k : Keeping) (there : host_at numbers older place ≡ k.host) (knows : (a : Adding) → line ≡ Add a → HostKnowsItsOwn (drawn_at numbers older place) (Some (Kept k)) a.page) where
       unless_denied : (fault : Option KeptFault) (doing : Transition) (text : List ℕ) → Goes (deeds_doing doing k) → Goes (deeds_by (kept_does fault doing text k) (deeds_doing doing k))
       unless_denied (Some fault) doing text goes = honest
       unless_denied None doing text goes = goes
@@ -133,7 +133,7 @@ module _ (numbers : ℕ → ℕ) (place : ℕ) (older : List Step) (honest : Are
     line_goes : (s : Option Host) → IsMemberAt (host_at numbers older place) s
         → ((line : DriverLine) (d : DrawopValue) → said ≡ Ok line → HandsInBy line d → WasHeld numbers older d)
         → ((d : DrawopValue) → said ≡ Ok (Say (datagrams.Draw d)) → IsHeldOrNext (drawn_at numbers older place) s d)
-        → ((a : Adding) → said ≡ Ok (Add a) → KnowsItsOwn (drawn_at numbers older place) s a.page)
+        → ((a : Adding) → said ≡ Ok (Add a) → HostKnowsItsOwn (drawn_at numbers older place) s a.page)
         → (read : Result DriverLine Refusal) → said ≡ read → IfOk read drivers.Fits → Goes (deeds_by (reply tuning s read) (deeds_said tuning s read))
     line_goes s is comes says knows (Err e) same fits = by_reply (reply tuning s (Err e)) [] honest
     line_goes None is comes says knows (Ok line) same fits = by_reply (reply tuning None (Ok line)) (deeds_first tuning line) (opens tuning line fits)
@@ -150,7 +150,7 @@ module _ (numbers : ℕ → ℕ) (place : ℕ) (older : List Step) (honest : Are
       kept_line (Keep rate listen) same fits = honest
       kept_line line same fits = kept line fits (λ d hands. comes line d same hands) k (sym is) (λ a e. knows a (same ∙ ap ok e)) line refl
 
-event_goes : (numbers : ℕ → ℕ) (older : List EventAt) (place : ℕ) → HaveNumbers numbers older → AreHonest numbers (steps_of_texts older) → (event : Event)
+event_goes : (numbers : ℕ → ℕ) (older : List EventAt) (place : ℕ) → HaveNumbers numbers older → AreHonest numbers (steps_of_texts older) → (event : TextEvent)
     → ((line : InputLine) → event ≡ Takes line → IsHonestLine numbers older place line) → AreHonest numbers (steps_then 0 place (deeds_of_event event (hosting_at older place)) (steps_of_texts older))
 event_goes numbers older place numbered honest (Starts tuning) lines_are = honest
 event_goes numbers older place numbered honest (Takes line) lines_are =

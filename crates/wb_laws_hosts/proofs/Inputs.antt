@@ -6,7 +6,7 @@ use Rattle.wb_lines.specs.Input.{InputLine}
 use Rattle.wb_lines.specs.Taking.{met}
 use Rattle.wb_dialog.specs.Hosting.{Hosting, block_of, blocks_from, hosting_after, hosting_from, reply_of, unopened}
 use Rattle.wb_laws_hosts.specs.Laws.{BlocksAreTranscripts, blocks_after, blocks_at, lines_after, lines_at}
-use Rattle.wb_laws_hosts.specs.Texts.{Event, EventAt, Starts, Takes, hosting_after_event, hosting_at}
+use Rattle.wb_laws_hosts.specs.Texts.{TextEvent, EventAt, Starts, Takes, hosting_after_event, hosting_at}
 
 -- one line more at the end
 host_more : (s : Hosting) (front : List InputLine) (line : InputLine) → hosting_from s (front ++ line ∷ []) ≡ hosting_after (hosting_from s front) (reply_of (hosting_from s front) (met line))
@@ -22,7 +22,7 @@ record Meets (s : Hosting) (lines : List InputLine) (blocks : List (List ℕ)) :
   host : hosting_from (unopened s.tuning) lines ≡ s
   wrote : blocks_from (unopened s.tuning) lines ≡ blocks
 
-event_meets : (e : Event) (s : Hosting) (lines : List InputLine) (blocks : List (List ℕ)) → Meets s lines blocks → Meets (hosting_after_event e s) (lines_after e lines) (blocks_after e s blocks)
+event_meets : (e : TextEvent) (s : Hosting) (lines : List InputLine) (blocks : List (List ℕ)) → Meets s lines blocks → Meets (hosting_after_event e s) (lines_after e lines) (blocks_after e s blocks)
 event_meets (Starts tuning) s lines blocks m = record { host = refl; wrote = refl }
 event_meets (Takes line) s lines blocks m =
     let start = unopened s.tuning in

@@ -32,7 +32,7 @@ use Rattle.wb_laws_sessions.specs.Sessions.{after_deeds, sent_by_deeds}
 use Rattle.wb_laws_sessions.specs.Members.{Deed, Opens}
 use Rattle.wb_laws_sessions.proofs.Several.{after_performed, sent_performed}
 use Rattle.wb_script.proofs.Refusals.{unless_both}
-use Rattle.wb_laws_hosts.specs.Texts.{IsMemberAt, IsOf, deeds_by, deeds_doing, deeds_driven, deeds_kept, deeds_of, deeds_said}
+use Rattle.wb_laws_hosts.specs.Texts.{IsMemberAt, IsOf, deeds_by, deeds_doing, deeds_driven, deeds_kept, deeds_of_line, deeds_said}
 use Rattle.wb_laws_hosts.specs.Telling.{told_driven, told_first, told_kept, told_of, told_said, told_saying}
 
 -- the member that a host is
@@ -127,14 +127,14 @@ begins_led : (rate listen : ℕ) (host : Opened) (board : Option BoardValue) →
 begins_led rate listen host None = tt
 begins_led rate listen host (Some board) = (refl, refl)
 
-open_led : (tuning : Tuning) (h : Host) (line : DriverLine) → Led (member_in h) (reply_to tuning (Some h) line) (deeds_of tuning (Some h) line) (told_of (Some h) line)
+open_led : (tuning : Tuning) (h : Host) (line : DriverLine) → Led (member_in h) (reply_to tuning (Some h) line) (deeds_of_line tuning (Some h) line) (told_of (Some h) line)
 open_led tuning (Driven host board) (Keep rate listen) = begins_led rate listen host board
 open_led tuning (Driven host board) line = driven_led host (board_after line board) line
 open_led tuning (Kept k) (Keep rate listen) = tt
 open_led tuning (Kept k) line = kept_led k line
 
 -- before a board is open: it is of the member whose number it has
-first_led : (tuning : Tuning) (member : Opened) (line : DriverLine) → IsOf member.is.number None (Ok line) → Led member (reply_to tuning None line) (deeds_of tuning None line) (told_first line)
+first_led : (tuning : Tuning) (member : Opened) (line : DriverLine) → IsOf member.is.number None (Ok line) → Led member (reply_to tuning None line) (deeds_of_line tuning None line) (told_first line)
 first_led tuning member (Script (lines.Board number cells workers seed)) is = (ap (λ (n : ℕ). opened_as n) is, refl) where
   opened_as : ℕ → Opened
   opened_as n = after_deeds (Opens tuning cells seed ∷ []) (record { is = record member.is { number = n }; random = member.random })

@@ -11,7 +11,7 @@ use Rattle.wb_script.specs.declared.fault.RunFault.{RunFault}
 use Rattle.wb_member.specs.Opened.{Opened, by_host}
 use Rattle.wb_commands.specs.Acts.{Act, does, fails, act}
 use Rattle.wb_script.specs.Reordering.{part_unless, part_at, batches_with, batches_of}
-use Rattle.wb_script.specs.Script.{State, start, closing_text, after_batch, Closing, Opens, Acts, Faulty, Part, Arrival, Nothing, End, part_in, Step, goes, refused, step_by, closing_step, part_step, finish}
+use Rattle.wb_script.specs.Script.{RunState, run_start, closing_text, after_batch, Closing, Opens, Acts, Faulty, Part, Arrival, Nothing, End, part_in, RunStep, moves_on, refused, step_by, closing_step, part_step, finish}
 use Rattle.wb_script.proofs.Simulations.{EndsAlike, StepsAlike, Simulates, simulated}
 use Rattle.wb_laws_hosts.specs.RunLaws.{AloneIsOneOrder}
 
@@ -39,8 +39,8 @@ waits_by (Some Nothing) n = n
 waits_by (Some (End c)) n = 0
 waits_by None n = 0
 
-abbrev pub Waits : Part → ℕ → Step → Type 0
-Waits part n (goes t text) = length t.waiting ≡ waits_by (Some part) n
+abbrev pub Waits : Part → ℕ → RunStep → Type 0
+Waits part n (moves_on t text) = length t.waiting ≡ waits_by (Some part) n
 Waits part n (refused t text e) = length t.waiting ≤ n
 
 act_waits : (k : Option ℕ) (text : List ℕ) (a : Act) (host : Opened) (c : Closing) (n : ℕ) → Waits (End c) n (step_by k text a host)
@@ -55,11 +55,11 @@ closes_wait k None text (Acts line) n = omega arith
 closes_wait k (Some host) text (Acts line) n = act_waits k text (act line host) host (Acts line) n
 closes_wait k host text (Faulty e) n = omega arith
 
-arrive_waits : (s : State) (d : DrawopValue) (host : Option Opened) → Waits (Arrival d) (length s.waiting) (by_host host (refused s [] faults.NoBoard) (λ h. goes (record { host = s.host; workers = s.workers; waiting = s.waiting ++ d ∷ [] }) []))
+arrive_waits : (s : RunState) (d : DrawopValue) (host : Option Opened) → Waits (Arrival d) (length s.waiting) (by_host host (refused s [] faults.NoBoard) (λ h. moves_on (record { host = s.host; workers = s.workers; waiting = s.waiting ++ d ∷ [] }) []))
 arrive_waits s d None = omega arith
 arrive_waits s d (Some host) = length-append s.waiting (d ∷ [])
 
-pub step_waits : (s : State) (part : Part) → Waits part (length s.waiting) (part_step s s.waiting part)
+pub step_waits : (s : RunState) (part : Part) → Waits part (length s.waiting) (part_step s s.waiting part)
 step_waits s Nothing = refl
 step_waits s (Arrival d) = arrive_waits s d s.host
 step_waits s (End c) = closes_wait s.workers (after_batch s s.waiting).host (closing_text s s.waiting) c (length s.waiting)
@@ -115,14 +115,14 @@ none_before d bytes n (batch ∷ batches) some fit = let first = fit.0 in omega 
 -- ---- the one outcome
 
 -- the same state, at which one arrival waits at most
-abbrev Lone : Bool → ℕ → List InputLine → State → State → Type 0
+abbrev Lone : Bool → ℕ → List InputLine → RunState → RunState → Type 0
 Lone cut n lines s t = (s ≡ t) × Fits (length s.waiting) (batches_of content cut n lines)
 
-ends_alone : (s t : State) → s ≡ t → length s.waiting ≤ 1 → EndsAlike s t
+ends_alone : (s t : RunState) → s ≡ t → length s.waiting ≤ 1 → EndsAlike s t
 ends_alone s t same few = subst (EndsAlike s) same (λ order may ending. ap (λ (order : List DrawopValue). finish s order ending) (one_order s.waiting order few may.moved))
 
-goes_alone : (cut : Bool) (n m : ℕ) (lines : List InputLine) (part : Part) (step : Step) → m ≤ 1 → Waits part m step → Fits (waits_by (Some part) m) (batches_of content cut n lines) → StepsAlike (Lone cut n lines) step step
-goes_alone cut n m lines part (goes t text) few waits fit = ((refl, subst (λ (k : ℕ). Fits k (batches_of content cut n lines)) (sym waits) fit), refl)
+goes_alone : (cut : Bool) (n m : ℕ) (lines : List InputLine) (part : Part) (step : RunStep) → m ≤ 1 → Waits part m step → Fits (waits_by (Some part) m) (batches_of content cut n lines) → StepsAlike (Lone cut n lines) step step
+goes_alone cut n m lines part (moves_on t text) few waits fit = ((refl, subst (λ (k : ℕ). Fits k (batches_of content cut n lines)) (sym waits) fit), refl)
 goes_alone cut n m lines part (refused t text e) few waits fit = (ends_alone t t refl (omega (arith, waits, few)), refl, refl)
 
 lone_simulates : (cut : Bool) → Simulates cut (Lone cut)
@@ -133,7 +133,7 @@ lone_simulates cut = record {
       let here : part_at cut n line ≡ Some (part_in line) = ap (λ (f : Option RunFault). part_unless f line) free in
       let fit = fits_after (part_at cut n line) (content line) (length s.waiting) (batches_of content cut (n + 1) lines) (has_batch cut (n + 1) lines) a.1 in
       let after : Fits (waits_by (Some (part_in line)) (length s.waiting)) (batches_of content cut (n + 1) lines) = subst (λ (p : Option Part). Fits (waits_by p (length s.waiting)) (batches_of content cut (n + 1) lines)) here fit in
-      subst (λ (u : State). StepsAlike (Lone cut (n + 1) lines) (part_step s order (part_in line)) (part_step u u.waiting (part_in line))) a.0
+      subst (λ (u : RunState). StepsAlike (Lone cut (n + 1) lines) (part_step s order (part_in line)) (part_step u u.waiting (part_in line))) a.0
       (subst (λ (order : List DrawopValue). StepsAlike (Lone cut (n + 1) lines) (part_step s order (part_in line)) (part_step s s.waiting (part_in line))) (sym (one_order s.waiting order few may.moved))
       (goes_alone cut (n + 1) (length s.waiting) lines (part_in line) (part_step s s.waiting (part_in line)) few (step_waits s (part_in line)) after));
 }
@@ -141,4 +141,4 @@ lone_simulates cut = record {
 pub alone_is_one_order : AloneIsOneOrder
 alone_is_one_order workers cut input o alone h =
     let lines : List InputLine = input_lines input in
-    simulated cut (Lone cut) (lone_simulates cut) 0 (start workers) (start workers) lines o (refl, fits_all (batches_of content cut 0 lines) (has_batch cut 0 lines) alone) h
+    simulated cut (Lone cut) (lone_simulates cut) 0 (run_start workers) (run_start workers) lines o (refl, fits_all (batches_of content cut 0 lines) (has_batch cut 0 lines) alone) h

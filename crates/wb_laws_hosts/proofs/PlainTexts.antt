@@ -28,7 +28,7 @@ use Rattle.wb_member.specs.declared.questions.Query.{Query}
 use Rattle.wb_member.specs.declared.questions.Query.TheVariants.{Canvas, View}
 use Rattle.wb_commands.specs.declared.command.Command.TheVariants.{Question}
 use Rattle.wb_dialog.specs.declared.line.DriverLine.TheVariants.{Script}
-use Rattle.wb_commands.specs.Answers.{view_text, words_line}
+use Rattle.wb_commands.specs.Answers.{view_text, drawop_line}
 use Rattle.wb_commands.specs.SentLines.{found_text, sends_text}
 use Rattle.wb_laws_hosts.specs.Closings.{IsOneLine, AreOneLine, IsNoShow}
 use Rattle.wb_laws_hosts.specs.Telling.{answered}
@@ -101,13 +101,13 @@ behind_free : (d : DrawopValue) → IsOneLine d.op → NoLineFeed (tailed (behin
 behind_free d h = before (decimal d.name.source ∷ page_word d.name.page ∷ decimal d.name.seq ∷ decimal d.time ∷ kind_word (op_kind d.op) ∷ []) (field_words d.op)
     (number_free d.name.source, (page_free d.name.page, (number_free d.name.seq, (number_free d.time, (kind (op_kind d.op), tt))))) (fields d.op h)
 
-in_words : (d : DrawopValue) → IsOneLine d.op → Plain (words_line d)
+in_words : (d : DrawopValue) → IsOneLine d.op → Plain (drawop_line d)
 in_words d h = subst (λ (line : List ℕ). Plain (line ++ codes "\n")) (sym (joined_tailed (codes "draw") (behind_draw d)))
     (worded _ refl (further (codes "draw" ++ tailed (behind_draw d)) (codes "\n") (NoLineFeed-append (codes "draw") (tailed (behind_draw d)) (free_of (codes "draw") refl) (behind_free d h)) (ended [] none)))
 
-in_lines : (ds : List DrawopValue) → AreOneLine ds → Plain (flat_map words_line ds)
+in_lines : (ds : List DrawopValue) → AreOneLine ds → Plain (flat_map drawop_line ds)
 in_lines [] h = none
-in_lines (d ∷ ds) h = both (words_line d) (flat_map words_line ds) (in_words d (All-head (λ (e : DrawopValue). IsOneLine e.op) d ds h)) (in_lines ds (All-tail (λ (e : DrawopValue). IsOneLine e.op) d ds h))
+in_lines (d ∷ ds) h = both (drawop_line d) (flat_map drawop_line ds) (in_words d (All-head (λ (e : DrawopValue). IsOneLine e.op) d ds h)) (in_lines ds (All-tail (λ (e : DrawopValue). IsOneLine e.op) d ds h))
 
 seen : (host : Opened) (page : PageId) → AreOneLine host.is.held → (d : DrawopValue) → Contains (view_of host.is.held page) d → IsOneLine d.op
 unfolding view_of

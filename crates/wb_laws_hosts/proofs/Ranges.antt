@@ -35,7 +35,7 @@ use Rattle.wb_laws_sessions.specs.Sessions.{after_deeds}
 use Rattle.wb_laws_sessions.proofs.Deeds.{ComesBy, deed_brings, deed_draws, number_after}
 use Rattle.wb_laws_hosts.specs.Closings.{HoldsLines}
 use Rattle.wb_laws_hosts.specs.Laws.{BoardsAreInRange, IsOpenHost}
-use Rattle.wb_laws_hosts.specs.Texts.{Event, EventAt, IsMemberAt, Starts, Takes, deeds_at, deeds_by, deeds_doing, deeds_driven, deeds_first, deeds_kept, deeds_of, deeds_said, hosting_after_event, hosting_at}
+use Rattle.wb_laws_hosts.specs.Texts.{TextEvent, EventAt, IsMemberAt, Starts, Takes, deeds_at, deeds_by, deeds_doing, deeds_driven, deeds_first, deeds_kept, deeds_of_line, deeds_said, hosting_after_event, hosting_at}
 use Rattle.wb_laws_hosts.specs.Telling.{told_said}
 use Rattle.wb_laws_hosts.proofs.DriverLines as drivers
 use Rattle.wb_laws_hosts.proofs.DriverLines.{met_fits}
@@ -177,7 +177,7 @@ by_reply : (r : Reply) (deeds : List Deed) → EachBrings deeds → EachBrings (
 by_reply (prints next text) deeds brings = brings
 by_reply (denies e) deeds brings = tt
 
-open_brings : (tuning : Tuning) (h : Host) (line : DriverLine) → InRange (member_in h) → drivers.Fits line → EachBrings (deeds_by (reply_to tuning (Some h) line) (deeds_of tuning (Some h) line))
+open_brings : (tuning : Tuning) (h : Host) (line : DriverLine) → InRange (member_in h) → drivers.Fits line → EachBrings (deeds_by (reply_to tuning (Some h) line) (deeds_of_line tuning (Some h) line))
 open_brings tuning (Driven host board) line f fit = by_reply (reply_to tuning (Some (Driven host board)) line) (deeds_driven line) (driven_brings line fit)
 open_brings tuning (Kept k) (Keep rate listen) f fit = tt
 open_brings tuning (Kept k) line f fit = kept_brings k f line fit
@@ -222,7 +222,7 @@ pub line_brings : (s : Hosting) (line : InputLine) → Holds s.host → EachBrin
 line_brings s line h = by s.host h where
   first_brings : (said : Result DriverLine Refusal) → EachBrings (deeds_by (reply s.tuning None said) (deeds_said s.tuning None said))
   first_brings (Err e) = tt
-  first_brings (Ok line) = by_reply (reply s.tuning None (Ok line)) (deeds_of s.tuning None line) (opening line) where
+  first_brings (Ok line) = by_reply (reply s.tuning None (Ok line)) (deeds_of_line s.tuning None line) (opening line) where
     opening : (line : DriverLine) → EachBrings (deeds_first s.tuning line)
     opening (Script (lines.Board member cells workers seed)) = (tt, tt)
     opening line = tt
@@ -236,7 +236,7 @@ from_holds : (s : Hosting) (older : List InputLine) → Holds s.host → Holds (
 from_holds s [] h = h
 from_holds s (line ∷ older) h = from_holds (hosting_after s (reply_of s (met line))) older (said_holds s.tuning s.host (says_line (met line)) h (met_fits (met line)))
 
-event_holds : (e : Event) (s : Hosting) → Holds s.host → Holds (hosting_after_event e s).host
+event_holds : (e : TextEvent) (s : Hosting) → Holds s.host → Holds (hosting_after_event e s).host
 event_holds (Starts tuning) s h = tt
 event_holds (Takes line) s h = said_holds s.tuning s.host (says_line (met line)) h (met_fits (met line))
 

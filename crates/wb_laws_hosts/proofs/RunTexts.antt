@@ -16,9 +16,9 @@ use Rattle.wb_script.specs.declared.running.Summary.{Summary}
 use Rattle.wb_member.specs.Opened.{Opened, becomes, board_of}
 use Rattle.wb_script.specs.Hosts.{taken, batch_text, script_constants}
 use Rattle.wb_commands.specs.Acts.{Act, does, fails, act}
-use Rattle.wb_commands.specs.Parsing.{line_of as script_line_of}
+use Rattle.wb_commands.specs.Parsing.{script_line_of}
 use Rattle.wb_script.specs.Reordering.{part_unless, batches_with, batches_of}
-use Rattle.wb_script.specs.Script.{State as Board, start, closing_text, after_batch, Part, Arrival, part_of, Step, goes, refused, step_by, part_step, said_step, Outcome, prints, before, finish, proceed, continue, most_lines, outcome_from, IsOutcome}
+use Rattle.wb_script.specs.Script.{RunState as Board, run_start, closing_text, after_batch, Part, Arrival, part_of, RunStep, moves_on, refused, step_by, part_step, said_step, RunOutcome, prints, printed_before, finish, follow_step, continue, most_lines, run_outcome_from, IsOutcome}
 use Rattle.wb_dialog.specs.declared.line.DriverLine.TheVariants.{Script}
 use Rattle.wb_dialog.specs.Dialog.{State, Answer, gives, answered, batch_of, arrives, answer_to, answer_of, block, state_after, blocks_from, answered_lines, answer, due}
 use Rattle.wb_laws_hosts.specs.RunLaws.{ArriveAlone, IsWithoutOks, blocks_of, IsRunOut, RunIsWithoutOks, RefusedIsWithoutOks}
@@ -47,11 +47,11 @@ board k host waiting = record { host = host; workers = k; waiting = waiting }
 -- ---- one line
 
 -- A step of a script does as the answer of such a host: it prints the same, but that a batch prints at its end.
-abbrev DoesAs : Board → Answer → Step → Type 0
-DoesAs s a (goes t text) = (printed : List ℕ) × (a ≡ gives (host_of t) printed) × (text ++ closing t ≡ closing s ++ printed)
+abbrev DoesAs : Board → Answer → RunStep → Type 0
+DoesAs s a (moves_on t text) = (printed : List ℕ) × (a ≡ gives (host_of t) printed) × (text ++ closing t ≡ closing s ++ printed)
 DoesAs s a (refused t text e) = text ++ closing t ≡ closing s
 
-arrives_as : (k : Option ℕ) (host : Opened) (d : DrawopValue) → DoesAs (board k (Some host) []) (arrives d host) (goes (board k (Some host) (d ∷ [])) [])
+arrives_as : (k : Option ℕ) (host : Opened) (d : DrawopValue) → DoesAs (board k (Some host) []) (arrives d host) (moves_on (board k (Some host) (d ∷ [])) [])
 arrives_as k host d = (batch_of (becomes d host), ap (λ (next : Opened). gives (Some next) (batch_of (becomes d host))) (sym (taken_alone d host)), refl)
 
 acts_as : (k : Option ℕ) (s : Board) (a : Act) (host : Opened) → DoesAs s (answered a) (step_by k (closing s) a host)
@@ -66,7 +66,7 @@ line_as k None waiting line none = refl
 line_as k (Some host) waiting lines.Skip none = ([], refl, sym (append-nil (closing (board k (Some host) waiting))))
 line_as k (Some host) waiting (lines.Board member cells workers seed) none = append-nil (closing (board k (Some host) waiting))
 line_as k (Some host) waiting (lines.Arrive d) none =
-    subst (λ (w : List DrawopValue). DoesAs (board k (Some host) w) (arrives d (taken w host)) (goes (board k (Some host) (w ++ d ∷ [])) [])) (sym (none d refl)) (arrives_as k host d)
+    subst (λ (w : List DrawopValue). DoesAs (board k (Some host) w) (arrives d (taken w host)) (moves_on (board k (Some host) (w ++ d ∷ [])) [])) (sym (none d refl)) (arrives_as k host d)
 line_as k (Some host) waiting line none = let next = taken waiting host in acts_as k (board k (Some host) waiting) (act line next) next
 
 -- what a host answers to a line that is not too long, and that a script takes
@@ -82,7 +82,7 @@ abbrev Follows : Board → List InputLine → List ℕ → Type 0
 Follows s lines text = (rest : List ℕ) × (text ≡ closing s ++ rest) × IsWithoutOks (blocks_from (beside s) lines) rest × AreGiven (beside s) lines
 
 -- At the end of the lines, a text is what the blocks of all that are answered print; where a line is refused, what those before it print.
-abbrev Agrees : Bool → ℕ → Board → List InputLine → Outcome → Type 0
+abbrev Agrees : Bool → ℕ → Board → List InputLine → RunOutcome → Type 0
 Agrees cut n s lines (prints text (Ok summary)) = Follows s (answered_lines cut lines) text
 Agrees cut n s lines (prints text (Err run_faults.Read)) = Follows s (answered_lines cut lines) text
 Agrees cut n s lines (prints text (Err (run_faults.Line number e))) = (front : List InputLine) × (behind : List InputLine) × (lines ≡ front ++ behind) × (number ≡ n + length front + 1) × Follows s front text
@@ -103,7 +103,7 @@ module _ (s t : Board) (line : InputLine) (x printed : List ℕ) (is : answer_of
   all_follow : (cut : Bool) (lines : List InputLine) (text : List ℕ) → is_taken cut line ≡ true → Follows t (answered_lines cut lines) text → Follows s (answered_lines cut (line ∷ lines)) (x ++ text)
   all_follow cut lines text taken f = subst (λ (b : Bool). Follows s (if b then line ∷ answered_lines cut lines else []) (x ++ text)) (sym taken) (follows_on (answered_lines cut lines) text f)
 
-  agrees_on : (cut : Bool) (n : ℕ) (lines : List InputLine) (o : Outcome) → is_taken cut line ≡ true → Agrees cut (n + 1) t lines o → Agrees cut n s (line ∷ lines) (before x o)
+  agrees_on : (cut : Bool) (n : ℕ) (lines : List InputLine) (o : RunOutcome) → is_taken cut line ≡ true → Agrees cut (n + 1) t lines o → Agrees cut n s (line ∷ lines) (printed_before x o)
   agrees_on cut n lines (prints text (Ok summary)) taken f = all_follow cut lines text taken f
   agrees_on cut n lines (prints text (Err run_faults.Read)) taken f = all_follow cut lines text taken f
   agrees_on cut n lines (prints text (Err (run_faults.Line number e))) taken f = (
@@ -125,25 +125,25 @@ closing_again s = at s.host where
   at None = refl
   at (Some host) = append-nil (batch_text (board_of host) s.waiting)
 
-refused_here : (cut : Bool) (n : ℕ) (s t : Board) (lines : List InputLine) (text : List ℕ) (e : LineFault) → text ++ closing t ≡ closing s → Agrees cut n s lines (before text (finish t t.waiting (Err (run_faults.Line (n + 1) e))))
+refused_here : (cut : Bool) (n : ℕ) (s t : Board) (lines : List InputLine) (text : List ℕ) (e : LineFault) → text ++ closing t ≡ closing s → Agrees cut n s lines (printed_before text (finish t t.waiting (Err (run_faults.Line (n + 1) e))))
 refused_here cut n s t lines text e shift = ([], lines, refl, omega arith, ([], shift ∙ sym (append-nil (closing s)), refl, tt))
 
 none_follows : (s : Board) → Follows s [] (closing s)
 none_follows s = ([], sym (append-nil (closing s)), refl, tt)
 
-step_agrees : (cut : Bool) (n : ℕ) (s : Board) (line : InputLine) (lines : List InputLine) (step : Step) (rest : Board → Outcome) → is_taken cut line ≡ true → DoesAs s (answer_of (beside s) (met line)) step
-    → ((t : Board) (text : List ℕ) → step ≡ goes t text → Agrees cut (n + 1) t lines (rest t)) → Agrees cut n s (line ∷ lines) (proceed (n + 1) step rest)
-step_agrees cut n s line lines (goes t text) rest taken alike on = agrees_on s t line text alike.0 alike.1 alike.2 cut n lines (rest t) taken (on t text refl)
+step_agrees : (cut : Bool) (n : ℕ) (s : Board) (line : InputLine) (lines : List InputLine) (step : RunStep) (rest : Board → RunOutcome) → is_taken cut line ≡ true → DoesAs s (answer_of (beside s) (met line)) step
+    → ((t : Board) (text : List ℕ) → step ≡ moves_on t text → Agrees cut (n + 1) t lines (rest t)) → Agrees cut n s (line ∷ lines) (follow_step (n + 1) step rest)
+step_agrees cut n s line lines (moves_on t text) rest taken alike on = agrees_on s t line text alike.0 alike.1 alike.2 cut n lines (rest t) taken (on t text refl)
 step_agrees cut n s line lines (refused t text e) rest taken alike on = refused_here cut n s t (line ∷ lines) text e alike
 
 pub neither : (short complete : Bool) → short ≡ true → complete ≡ false → (not short || complete) ≡ false
 neither true complete is off = off
 neither false complete is off = absurd cc
 
-module _ (cut : Bool) (n : ℕ) (s : Board) (line : InputLine) (lines : List InputLine) (batches : Batches) (some : HasOne batches) (rest : Board → Outcome)
+module _ (cut : Bool) (n : ℕ) (s : Board) (line : InputLine) (lines : List InputLine) (batches : Batches) (some : HasOne batches) (rest : Board → RunOutcome)
     (on : (t : Board) → Fits (length t.waiting) batches → Agrees cut (n + 1) t lines (rest t)) where
   takes : (said : Result Command LineFault) → script_line_of (content line) ≡ said → is_short line ≡ true → is_taken cut line ≡ true → Fits (length s.waiting) (batches_with (Some (part_of said)) (content line) batches)
-      → Agrees cut n s (line ∷ lines) (proceed (n + 1) (said_step s s.waiting said) rest)
+      → Agrees cut n s (line ∷ lines) (follow_step (n + 1) (said_step s s.waiting said) rest)
   takes (Err e) is short taken fit = refused_here cut n s (after_batch s s.waiting) (line ∷ lines) (closing s) e (closing_again s)
   takes (Ok said) is short taken fit =
       let part : Part = part_of (Ok said) in
@@ -166,23 +166,23 @@ at_end : (cut : Bool) (n : ℕ) (s : Board) → Agrees cut n s [] (finish s s.wa
 at_end true n s = none_follows s
 at_end false n s = none_follows s
 
-agrees : (cut : Bool) (n : ℕ) (s : Board) (lines : List InputLine) → Fits (length s.waiting) (batches_of content cut n lines) → Agrees cut n s lines (outcome_from cut n s lines)
+agrees : (cut : Bool) (n : ℕ) (s : Board) (lines : List InputLine) → Fits (length s.waiting) (batches_of content cut n lines) → Agrees cut n s lines (run_outcome_from cut n s lines)
 agrees cut n s [] fit = at_end cut n s
 agrees cut n s (line ∷ lines) fit =
-    agrees_line cut n s line lines (batches_of content cut (n + 1) lines) (has_batch cut (n + 1) lines) (λ t. outcome_from cut (n + 1) t lines) (λ t fit. agrees cut (n + 1) t lines fit)
+    agrees_line cut n s line lines (batches_of content cut (n + 1) lines) (has_batch cut (n + 1) lines) (λ t. run_outcome_from cut (n + 1) t lines) (λ t fit. agrees cut (n + 1) t lines fit)
     (nat_lt n most_lines && nat_le (length line.bytes) most_bytes) (line.ended || not cut) refl refl fit
 
 -- ---- whole scripts
 
 -- what a host prints for lines that are not refused, from before its board is open
-printed_whole : (lines : List InputLine) (text : List ℕ) → IsWithoutOks (blocks_from (beside (start None)) lines) text → AreGiven (beside (start None)) lines → IsWithoutOks (blocks_of lines) text
+printed_whole : (lines : List InputLine) (text : List ℕ) → IsWithoutOks (blocks_from (beside (run_start None)) lines) text → AreGiven (beside (run_start None)) lines → IsWithoutOks (blocks_of lines) text
 printed_whole lines text printed given = subst (λ (blocks : List (List ℕ)). IsWithoutOks blocks text) (blocks_given script_constants lines given) printed
 
 -- whatever the number of workers
-ran : (workers : Option ℕ) (cut : Bool) (input : List ℕ) (o : Outcome) → ArriveAlone cut input → IsOutcome workers cut input o → Agrees cut 0 (start workers) (input_lines input) o
+ran : (workers : Option ℕ) (cut : Bool) (input : List ℕ) (o : RunOutcome) → ArriveAlone cut input → IsOutcome workers cut input o → Agrees cut 0 (run_start workers) (input_lines input) o
 ran workers cut input o alone h =
     let lines : List InputLine = input_lines input in
-    subst (Agrees cut 0 (start workers) lines) (sym (alone_is_one_order workers cut input o alone h)) (agrees cut 0 (start workers) lines (fits_all (batches_of content cut 0 lines) (has_batch cut 0 lines) alone))
+    subst (Agrees cut 0 (run_start workers) lines) (sym (alone_is_one_order workers cut input o alone h)) (agrees cut 0 (run_start workers) lines (fits_all (batches_of content cut 0 lines) (has_batch cut 0 lines) alone))
 
 all_printed : (cut : Bool) (s : Board) (lines : List InputLine) (text : List ℕ) (end : Result Summary RunFault) → IsRunOut end → Agrees cut 0 s lines (prints text end) → Follows s (answered_lines cut lines) text
 all_printed cut s lines text (Ok summary) out f = f
@@ -196,7 +196,7 @@ all_printed cut s lines text (Err (run_faults.Line number e)) out f = absurd out
 pub run_is_without_oks : RunIsWithoutOks
 run_is_without_oks workers cut input text end out alone h =
     let lines : List InputLine = input_lines input in
-    let follows = all_printed cut (start workers) lines text end out (ran workers cut input (prints text end) alone h) in
+    let follows = all_printed cut (run_start workers) lines text end out (ran workers cut input (prints text end) alone h) in
     subst (IsWithoutOks (blocks_of (answered_lines cut lines))) (sym follows.1) (printed_whole (answered_lines cut lines) follows.0 follows.2 follows.3)
 
 pub refused_is_without_oks : RefusedIsWithoutOks

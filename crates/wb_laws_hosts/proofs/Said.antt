@@ -22,8 +22,8 @@ use Rattle.wb_laws_sessions.proofs.Drawn.{held_was_drawn, names_mean_one, once_h
 use Rattle.wb_laws_sessions.proofs.Sending.{one_of}
 use Rattle.wb_laws_sessions.proofs.Sent.{sent_was_held}
 use Rattle.wb_laws_sessions.proofs.Several.{DrawnThen, drawn_then, sent_longer, sent_then}
-use Rattle.wb_laws_hosts.specs.Laws.{HeldWasSaid, IsOpenHost, SentOnce, SentWasSaid, WasSaid, WasSent}
-use Rattle.wb_laws_hosts.specs.Texts.{Event, EventAt, HaveNumbers, IsMemberAt, Starts, Takes, deeds_at, deeds_by, deeds_of_event, deeds_said, hosting_at, sent_at_host, steps_of_texts}
+use Rattle.wb_laws_hosts.specs.Laws.{HeldWasSaid, IsOpenHost, SentOnce, SentWasSaid, WasSaid, WasSentByLine}
+use Rattle.wb_laws_hosts.specs.Texts.{TextEvent, EventAt, HaveNumbers, IsMemberAt, Starts, Takes, deeds_at, deeds_by, deeds_of_event, deeds_said, hosting_at, sent_at_host, steps_of_texts}
 use Rattle.wb_laws_hosts.proofs.TextSessions.{older_numbered, texts_are_sessions, texts_split}
 
 -- ---- what lines send is sent by their steps
@@ -34,13 +34,13 @@ open_sends (Some (Driven host board)) member deeds v is c = subst (λ (m : Opene
 open_sends (Some (Kept k)) member deeds v is c = subst (λ (m : Opened). Contains (sent_by_deeds deeds m) v) is c
 
 module _ (numbers : ℕ → ℕ) where
-  pub was_sent : (events : List EventAt) → HaveNumbers numbers events → (v : Datagram) → WasSent events v → Contains (sent numbers (steps_of_texts events)) v
+  pub was_sent : (events : List EventAt) → HaveNumbers numbers events → (v : Datagram) → WasSentByLine events v → Contains (sent numbers (steps_of_texts events)) v
   was_sent events numbered v w =
       let now : List EventAt = w.e ∷ w.older in
       let there : HaveNumbers numbers now = older_numbered numbers w.newer now (subst (HaveNumbers numbers) w.split numbered) in
       let deeds = deeds_at (hosting_at w.older w.e.place) w.line in
       let by = open_sends (hosting_at w.older w.e.place).host (host_at numbers (steps_of_texts w.older) w.e.place) deeds v (texts_are_sessions numbers w.older there.1 w.e.place) w.out in
-      let here : Contains (sent numbers (steps_of_texts now)) v = subst (λ (e : Event). Contains (sent numbers (steps_then 0 w.e.place (deeds_of_event e (hosting_at w.older w.e.place)) (steps_of_texts w.older))) v) (sym w.takes)
+      let here : Contains (sent numbers (steps_of_texts now)) v = subst (λ (e : TextEvent). Contains (sent numbers (steps_then 0 w.e.place (deeds_of_event e (hosting_at w.older w.e.place)) (steps_of_texts w.older))) v) (sym w.takes)
       (sent_then numbers 0 w.e.place deeds (steps_of_texts w.older) v by) in
       let front = texts_split w.newer now in
       subst (λ (s : List Step). Contains (sent numbers s) v) (sym (ap steps_of_texts w.split ∙ front.1)) (sent_longer numbers front.0 (steps_of_texts now) v here)
@@ -74,7 +74,7 @@ module _ (numbers : ℕ → ℕ) where
         s : Hosting
         s = hosting_at older e.place
 
-        by : (event : Event) → e.event ≡ event → DrawnThen numbers 0 e.place (deeds_of_event event s) (steps_of_texts older) k d → WasSaid numbers (e ∷ older) d
+        by : (event : TextEvent) → e.event ≡ event → DrawnThen numbers 0 e.place (deeds_of_event event s) (steps_of_texts older) k d → WasSaid numbers (e ∷ older) d
         by (Starts tuning) is now = absurd (Contains-none (Does (Says (Draw d))) now.said)
         by (Takes line) is now = record {
           sent = record {

@@ -17,9 +17,9 @@ use Rattle.wb_codec.proofs.GrammarLaws.{reading_takes}
 use Rattle.wb_words.specs.Reading.{begins_datagram, reading as reading_words}
 use Rattle.wb_words.specs.declared.fault.WrongWord.{WrongWord}
 use Rattle.wb_words.specs.declared.digits_fault.DigitsFault.TheVariants as digit_faults
-use Rattle.wb_lines.specs.Words.{words, is_digit, number_after, number_of, unhex}
+use Rattle.wb_lines.specs.Words.{words, is_digit, number_from, number_of, unhex}
 use Rattle.wb_member.specs.declared.calls.Call.TheVariants as calls
-use Rattle.wb_commands.specs.Parsing.{◌>>=◌, or_fault, number, one_of, two_of, four_of, board, distance, tuning, tick, page, question, spelled, datagram, arrived, heard, arrive, hear, handed_in, bytes_line, page_line, command, begins_comment, line_of_words, in_words, line_of}
+use Rattle.wb_commands.specs.Parsing.{◌>>=◌, or_fault, number, one_of, two_of, four_of, board, distance_set, tuning, tick, page, script_question, read_or_fault, datagram, arrived_line, heard_line, arrive, hear, handed_in, bytes_line, line_of_page, script_command, begins_comment, script_line_of_words, script_in_words, script_line_of}
 use Rattle.wb_commands.specs.declared.fault.LineFault.{LineFault}
 use Rattle.wb_commands.specs.declared.fault.LineFault.TheVariants as faults
 use Rattle.wb_commands.specs.declared.command.Command.{Command}
@@ -47,19 +47,19 @@ either P false x y p q = q
 abbrev pub IsWithin : ℕ → ℕ → ℕ → Type 0
 IsWithin low high n = (low ≤ n) × (n ≤ high)
 
-number_after_fits : (low high begun : ℕ) (word : List ℕ) → IfSome (number_after low high begun word) (IsWithin low high)
+number_after_fits : (low high begun : ℕ) (word : List ℕ) → IfSome (number_from low high begun word) (IsWithin low high)
 number_after_fits low high begun [] = from (nat_le low begun && nat_le begun high) refl where
   from : (b : Bool) → (nat_le low begun && nat_le begun high) ≡ b → IfSome (if b then Some begun else None) (IsWithin low high)
   from true e = let both = and_both (nat_le low begun) (nat_le begun high) e in (leb-true low begun both.0, leb-true begun high both.1)
   from false e = tt
 number_after_fits low high begun (b ∷ bs) = from (number_after_fits low high (10 * begun + (b - 48)) bs) (is_digit b) where
-  from : IfSome (number_after low high (10 * begun + (b - 48)) bs) (IsWithin low high) → (digit : Bool) → IfSome (if digit then number_after low high (10 * begun + (b - 48)) bs else None) (IsWithin low high)
+  from : IfSome (number_from low high (10 * begun + (b - 48)) bs) (IsWithin low high) → (digit : Bool) → IfSome (if digit then number_from low high (10 * begun + (b - 48)) bs else None) (IsWithin low high)
   from rest true = rest
   from rest false = tt
 
 number_of_fits : (low high : ℕ) (word : List ℕ) → IfSome (number_of low high word) (IsWithin low high)
 number_of_fits low high word = from (nat_eq (length word) 0) where
-  from : (empty : Bool) → IfSome (if empty then None else number_after low high 0 word) (IsWithin low high)
+  from : (empty : Bool) → IfSome (if empty then None else number_from low high 0 word) (IsWithin low high)
   from true = tt
   from false = number_after_fits low high 0 word
 
@@ -79,7 +79,7 @@ decoded (Err e) fit = tt
 unhex_fits : (digits : List ℕ) → IfSome (unhex digits) IsBytes
 unhex_fits digits = decoded (decode_of digits) (λ bytes e. (decode_of-ok digits bytes e).3)
 
-spelled_fits : (bytes : List ℕ) → IsBytes bytes → (r : Result Datagram ReadFault) → reading bytes ≡ r → IfOk (spelled r) IsDatagram
+spelled_fits : (bytes : List ℕ) → IsBytes bytes → (r : Result Datagram ReadFault) → reading bytes ≡ r → IfOk (read_or_fault r) IsDatagram
 spelled_fits bytes fit (Ok v) e = (reading_takes bytes v fit e).1
 spelled_fits bytes fit (Err f) e = tt
 
@@ -102,7 +102,7 @@ read_is : (o : Option (List ℕ)) → IfSome o IsBytes → IfSome o (λ bytes. I
 read_is (Some bytes) fit = (fit, refl)
 read_is None fit = tt
 
-spelled_is : (bytes : List ℕ) → IsBytes bytes → (r : Result Datagram ReadFault) → reading bytes ≡ r → IfOk (spelled r) (λ v. bytes ≡ spelling v)
+spelled_is : (bytes : List ℕ) → IsBytes bytes → (r : Result Datagram ReadFault) → reading bytes ≡ r → IfOk (read_or_fault r) (λ v. bytes ≡ spelling v)
 spelled_is bytes fit (Ok v) e = (reading_takes bytes v fit e).0
 spelled_is bytes fit (Err f) e = tt
 
@@ -117,7 +117,7 @@ datagram_digits arguments =
     bound IsOnly (IsDigitsOf arguments) (or_fault faults.Words (one_of arguments)) _ (or_fault_fits IsOnly faults.Words (one_of arguments) (only arguments)) (λ digits are.
     let IsRead : List ℕ → Type 0 = λ bytes. IsBytes bytes × (unhex digits ≡ Some bytes) in
     bound IsRead (IsDigitsOf arguments) (or_fault (faults.Digits digit_faults.Hex) (unhex digits)) _ (or_fault_fits IsRead (faults.Digits digit_faults.Hex) (unhex digits) (read_is (unhex digits) (unhex_fits digits))) (λ bytes read.
-    weaker (λ v. bytes ≡ spelling v) (IsDigitsOf arguments) (spelled (reading bytes)) (spelled_is bytes read.0 (reading bytes) refl) (λ v e. (digits, are, read.1 ∙ ap (λ (b : List ℕ). Some b) e))))
+    weaker (λ v. bytes ≡ spelling v) (IsDigitsOf arguments) (read_or_fault (reading bytes)) (spelled_is bytes read.0 (reading bytes) refl) (λ v e. (digits, are, read.1 ∙ ap (λ (b : List ℕ). Some b) e))))
 
 -- ---- lines
 
@@ -154,8 +154,8 @@ module _ (P : Datagram → Type 0) where
   unfolding tick
   tick_fits arguments = behind Has (or_fault faults.Words (one_of arguments)) _ (λ word. behind Has (number 0 (2 ^ 48 - 1) word) _ (λ moment. tt))
 
-  distance_fits : (arguments : List (List ℕ)) → IfOk (distance arguments) Has
-  unfolding distance
+  distance_fits : (arguments : List (List ℕ)) → IfOk (distance_set arguments) Has
+  unfolding distance_set
   distance_fits arguments = behind Has (or_fault faults.Words (two_of arguments)) _ (λ ws.
       behind Has (number 0 (2 ^ 32 - 1) ws.0) _ (λ source. behind Has (number 0 (2 ^ 24 - 1) ws.1) _ (λ micros. tt)))
 
@@ -164,11 +164,11 @@ module _ (P : Datagram → Type 0) where
   tuning_fits arguments = behind Has (or_fault faults.Words (four_of arguments)) _ (λ ws.
       behind Has (number 1 16 ws.0) _ (λ c1. behind Has (number 1 16 ws.1) _ (λ c2. behind Has (number 1 16 ws.2) _ (λ d1. behind Has (number 1 16 ws.3) _ (λ d2. tt)))))
 
-  arrived_fits : (v : Datagram) → P v → IfOk (arrived v) Has
+  arrived_fits : (v : Datagram) → P v → IfOk (arrived_line v) Has
   arrived_fits (datagrams.Draw d) fit = fit
   arrived_fits v fit = tt
 
-  heard_fits : (v : Datagram) → P v → IfOk (heard v) Has
+  heard_fits : (v : Datagram) → P v → IfOk (heard_line v) Has
   heard_fits (datagrams.Draw d) fit = tt
   heard_fits (datagrams.Session sender sent page marks echoes) fit = fit
   heard_fits (datagrams.Request asker name) fit = fit
@@ -183,23 +183,23 @@ module _ (P : Datagram → Type 0) where
   handed_fits (datagrams.PageState sender page marks) has = has
 
   arrive_fits : (arguments : List (List ℕ)) → IfOk (datagram arguments) P → IfOk (arrive arguments) Has
-  arrive_fits arguments has = bound P Has (datagram arguments) arrived has arrived_fits
+  arrive_fits arguments has = bound P Has (datagram arguments) arrived_line has arrived_fits
 
   hear_fits : (arguments : List (List ℕ)) → IfOk (datagram arguments) P → IfOk (hear arguments) Has
-  hear_fits arguments has = bound P Has (datagram arguments) heard has heard_fits
+  hear_fits arguments has = bound P Has (datagram arguments) heard_line has heard_fits
 
   bytes_line_fits : (arguments : List (List ℕ)) → IfOk (datagram arguments) P → IfOk (bytes_line arguments) Has
   bytes_line_fits arguments has = bound P Has (datagram arguments) (λ v. Ok (handed_in v)) has handed_fits
 
-  page_line_fits : (word : List ℕ) (arguments : List (List ℕ)) → IfOk (page_line word arguments) Has
-  unfolding page_line
+  page_line_fits : (word : List ℕ) (arguments : List (List ℕ)) → IfOk (line_of_page word arguments) Has
+  unfolding line_of_page
   page_line_fits word arguments =
       either Has (bytes_eq word (codes "look")) _ _ (behind Has (page arguments) (λ p. Ok (lines.Call (calls.Look p))) (λ p. tt))
       (either Has (bytes_eq word (codes "session")) _ _ (behind Has (page arguments) (λ p. Ok (lines.Call (calls.Session p))) (λ p. tt))
-      (behind Has (question word arguments) (λ query. Ok (lines.Question query)) (λ query. tt)))
+      (behind Has (script_question word arguments) (λ query. Ok (lines.Question query)) (λ query. tt)))
 
-  command_fits : (word : List ℕ) (arguments : List (List ℕ)) → IfOk (datagram arguments) P → IfOk (command word arguments) Has
-  unfolding command
+  command_fits : (word : List ℕ) (arguments : List (List ℕ)) → IfOk (datagram arguments) P → IfOk (script_command word arguments) Has
+  unfolding script_command
   command_fits word arguments has =
       either Has (bytes_eq word (codes "board")) _ _ (board_fits arguments)
       (either Has (bytes_eq word (codes "arrive")) _ _ (arrive_fits arguments has)
@@ -211,13 +211,13 @@ module _ (P : Datagram → Type 0) where
       (page_line_fits word arguments)))))))
 
   -- the words of a line, of which those behind the first may say a datagram
-  words_fit : (ws : List (List ℕ)) → ((word : List ℕ) (arguments : List (List ℕ)) → ws ≡ word ∷ arguments → IfOk (datagram arguments) P) → IfOk (line_of_words ws) Has
+  words_fit : (ws : List (List ℕ)) → ((word : List ℕ) (arguments : List (List ℕ)) → ws ≡ word ∷ arguments → IfOk (datagram arguments) P) → IfOk (script_line_of_words ws) Has
   words_fit [] has = tt
   words_fit (word ∷ arguments) has = either Has (begins_comment word) (Ok lines.Skip) _ tt (command_fits word arguments (has word arguments refl))
 
-  in_words_fit : (r : Result Datagram WrongWord) → IfOk r P → IfOk (in_words r) Has
+  in_words_fit : (r : Result Datagram WrongWord) → IfOk r P → IfOk (script_in_words r) Has
   in_words_fit (Ok v) has = handed_fits v has
   in_words_fit (Err wrong) has = tt
 
-  pub line_fits : (line : List ℕ) → Asks P line → IfOk (line_of line) Has
+  pub line_fits : (line : List ℕ) → Asks P line → IfOk (script_line_of line) Has
   line_fits line asks = either Has (begins_datagram line) _ _ (in_words_fit (reading_words line) asks.in_words) (words_fit (words line) asks.in_bytes)

@@ -8,10 +8,10 @@ use Rattle.wb_dialog.specs.Hosting.{Hosting}
 use Rattle.wb_laws_sessions.specs.Sessions.{Step, after_deeds, host_at, steps_then}
 use Rattle.wb_laws_sessions.specs.Members.{Deed}
 use Rattle.wb_laws_sessions.proofs.Several.{after_all, number_at, then_split}
-use Rattle.wb_laws_hosts.specs.Texts.{Event, EventAt, HaveNumbers, IsMemberAt, IsNumbered, Starts, Takes, TextsAreSessions, deeds_of_event, hosting_after_event, hosting_at, steps_of_texts}
+use Rattle.wb_laws_hosts.specs.Texts.{TextEvent, EventAt, HaveNumbers, IsMemberAt, IsNumbered, Starts, Takes, TextsAreSessions, deeds_of_event, hosting_after_event, hosting_at, steps_of_texts}
 use Rattle.wb_laws_hosts.proofs.Lines.{line_after}
 
-event_after : (member : Opened) (e : Event) (s : Hosting) → IsNumbered member.is.number e s → IsMemberAt member s.host → IsMemberAt (after_deeds (deeds_of_event e s) member) (hosting_after_event e s).host
+event_after : (member : Opened) (e : TextEvent) (s : Hosting) → IsNumbered member.is.number e s → IsMemberAt member s.host → IsMemberAt (after_deeds (deeds_of_event e s) member) (hosting_after_event e s).host
 event_after member (Starts tuning) s numbered is = tt
 event_after member (Takes line) s numbered is = line_after s.tuning s.host member (says_line (met line)) numbered is
 

@@ -17,10 +17,10 @@ use Rattle.wb_laws_hosts.specs.Texts.{EventAt, HaveNumbers, Takes, hosting_at, s
 
 -- A self-managing host knows its own numbers of a page: the last that it holds or heard of is as
 -- great as each that its member drew there, by all processes.
-abbrev pub KnowsItsOwn : List DrawopValue → Option Host → PageId → Type 0
-KnowsItsOwn drawn None page = Unit {0}
-KnowsItsOwn drawn (Some (Driven host board)) page = Unit {0}
-KnowsItsOwn drawn (Some (Kept k)) page = (d : DrawopValue) → Contains drawn d
+abbrev pub HostKnowsItsOwn : List DrawopValue → Option Host → PageId → Type 0
+HostKnowsItsOwn drawn None page = Unit {0}
+HostKnowsItsOwn drawn (Some (Driven host board)) page = Unit {0}
+HostKnowsItsOwn drawn (Some (Kept k)) page = (d : DrawopValue) → Contains drawn d
     → d.name.page ≡ page → d.name.seq ≤ last_number page k.host
 
 -- What a driver says as a drawing is held already, or has a number above all that its member drew
@@ -38,7 +38,7 @@ IsHeldOrNext drawn (Some (Kept k)) d = Unit {0}
 pub record IsHonestLine (numbers : ℕ → ℕ) (older : List EventAt) (place : ℕ) (line : InputLine) : Type 0 where
   pub comes : (d : DrawopValue) → HandsIn line (Draw d) → WasHeld numbers (steps_of_texts older) d
   pub adds : (a : Adding) → says_line (met line) ≡ Ok (Add a)
-      → KnowsItsOwn (drawn_at numbers (steps_of_texts older) place) (hosting_at older place).host a.page
+      → HostKnowsItsOwn (drawn_at numbers (steps_of_texts older) place) (hosting_at older place).host a.page
   pub says : (d : DrawopValue) → says_line (met line) ≡ Ok (Say (Draw d))
       → IsHeldOrNext (drawn_at numbers (steps_of_texts older) place) (hosting_at older place).host d
 

@@ -27,7 +27,7 @@ use Rattle.wb_laws_sessions.specs.Drawn.{AreHonest, WasHeld}
 use Rattle.wb_laws_sessions.specs.Members.{Does}
 use Rattle.wb_laws_machines.specs.Honest.{AreApart}
 use Rattle.wb_laws_hosts.specs.Telling.{told_at}
-use Rattle.wb_laws_hosts.specs.Texts.{CameOut, Event, EventAt, HaveNumbers, Starts, Takes, deeds_at, hosting_at, sent_at, steps_of_texts}
+use Rattle.wb_laws_hosts.specs.Texts.{CameOut, TextEvent, EventAt, HaveNumbers, Starts, Takes, deeds_at, hosting_at, sent_for_line, steps_of_texts}
 
 -- this member is open, whether its driver drives it or it is self-managing
 abbrev pub IsOpenHost : Option Host → Opened → Type 0
@@ -45,7 +45,7 @@ BoardsAreInRange = (events : List EventAt) (i : ℕ) (host : Opened)
 -- ---- inputs
 
 -- the lines that the process at a place was handed since it started, and the blocks that it wrote
-abbrev pub lines_after : Event → List InputLine → List InputLine
+abbrev pub lines_after : TextEvent → List InputLine → List InputLine
 lines_after (Starts tuning) lines = []
 lines_after (Takes line) lines = lines ++ line ∷ []
 
@@ -54,7 +54,7 @@ lines_at [] i = []
 lines_at (e ∷ older) i =
     if nat_eq e.place i then lines_after e.event (lines_at older i) else lines_at older i
 
-abbrev pub blocks_after : Event → Hosting → List (List ℕ) → List (List ℕ)
+abbrev pub blocks_after : TextEvent → Hosting → List (List ℕ) → List (List ℕ)
 blocks_after (Starts tuning) s blocks = []
 blocks_after (Takes line) s blocks = blocks ++ block_of (reply_of s (met line)) ∷ []
 
@@ -118,18 +118,18 @@ BatchesCountNoClash =
 -- ---- what is sent, at once or as a repair
 
 -- at some point a line is handed in that sends this
-pub record WasSent (events : List EventAt) (v : Datagram) : Type 0 where
+pub record WasSentByLine (events : List EventAt) (v : Datagram) : Type 0 where
   pub newer : List EventAt
   pub e : EventAt
   pub older : List EventAt
   pub split : events ≡ newer ++ e ∷ older
   pub line : InputLine
   pub takes : e.event ≡ Takes line
-  pub out : Contains (sent_at (hosting_at older e.place) line) v
+  pub out : Contains (sent_for_line (hosting_at older e.place) line) v
 
 -- by a line that had the host of its source say it
 pub record WasSaid (numbers : ℕ → ℕ) (events : List EventAt) (d : DrawopValue) : Type 0 where
-  pub sent : WasSent events (Draw d)
+  pub sent : WasSentByLine events (Draw d)
   pub source : d.name.source ≡ numbers sent.e.place
   pub said : Contains (deeds_at (hosting_at sent.older sent.e.place) sent.line) (Does (Says (Draw d)))
 
@@ -137,7 +137,7 @@ pub record WasSaid (numbers : ℕ → ℕ) (events : List EventAt) (d : DrawopVa
 abbrev pub SentWasSaid : Type 0
 SentWasSaid = (numbers : ℕ → ℕ) (events : List EventAt)
     → HaveNumbers numbers events → AreHonest numbers (steps_of_texts events)
-    → (d : DrawopValue) → WasSent events (Draw d) → WasSaid numbers events d
+    → (d : DrawopValue) → WasSentByLine events (Draw d) → WasSaid numbers events d
 
 -- So is each that a host holds.
 abbrev pub HeldWasSaid : Type 0
@@ -150,7 +150,7 @@ HeldWasSaid = (numbers : ℕ → ℕ) (events : List EventAt)
 abbrev pub SentOnce : Type 0
 SentOnce = (numbers : ℕ → ℕ) (events : List EventAt)
     → AreApart numbers → HaveNumbers numbers events → AreHonest numbers (steps_of_texts events)
-    → (d e : DrawopValue) → WasSent events (Draw d) → WasSent events (Draw e)
+    → (d e : DrawopValue) → WasSentByLine events (Draw d) → WasSentByLine events (Draw e)
     → d.name ≡ e.name → d ≡ e
 
 -- ---- agreement

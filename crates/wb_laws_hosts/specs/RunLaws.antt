@@ -9,7 +9,7 @@ use Rattle.wb_script.specs.declared.fault.RunFault.TheVariants as run_faults
 use Rattle.wb_script.specs.declared.running.Summary.{Summary}
 use Rattle.wb_script.specs.Hosts.{script_constants}
 use Rattle.wb_script.specs.Reordering.{IsReordered, batches_of}
-use Rattle.wb_script.specs.Script.{Part, Arrival, Nothing, End, part_in, Outcome, prints, outcome, IsOutcome}
+use Rattle.wb_script.specs.Script.{Part, Arrival, Nothing, End, part_in, RunOutcome, prints, run_outcome, IsOutcome}
 use Rattle.wb_dialog.specs.Dialog.{answered_lines, ok_line}
 use Rattle.wb_dialog.specs.Hosting.{blocks_from, unopened}
 
@@ -29,7 +29,7 @@ blocks_of lines = blocks_from (unopened script_constants) lines
 
 -- A script in which each arrival is a batch of its own has one outcome, by any number of workers: what one thread prints.
 abbrev pub AloneIsOneOrder : Type 0
-AloneIsOneOrder = (workers : Option ℕ) (cut : Bool) (input : List ℕ) (o : Outcome) → ArriveAlone cut input → IsOutcome workers cut input o → o ≡ outcome workers cut input
+AloneIsOneOrder = (workers : Option ℕ) (cut : Bool) (input : List ℕ) (o : RunOutcome) → ArriveAlone cut input → IsOutcome workers cut input o → o ≡ run_outcome workers cut input
 
 -- a run came to the end of its input, or to where reading fails
 abbrev pub IsRunOut : Result Summary RunFault → Type 0
@@ -86,19 +86,19 @@ PrintsAddedUp lines text = IsAddedUp lines (blocks_of lines) None text
 
 -- An outcome is what a host prints so: for the lines of the input, where the run came to their end, or to where reading fails; or for
 -- those before the one that is refused.
-abbrev pub IsTold : Bool → List ℕ → Outcome → Type 0
-IsTold cut input (prints text (Ok summary)) = PrintsAddedUp (answered_lines cut (input_lines input)) text
-IsTold cut input (prints text (Err run_faults.Read)) = PrintsAddedUp (answered_lines cut (input_lines input)) text
-IsTold cut input (prints text (Err (run_faults.Line number fault))) = PrintsAddedUp (take (number - 1) (input_lines input)) text
-IsTold cut input (prints text (Err run_faults.Write)) = Unit {0}
-IsTold cut input (prints text (Err run_faults.Memory)) = Unit {0}
-IsTold cut input (prints text (Err run_faults.Start)) = Unit {0}
-IsTold cut input (prints text (Err run_faults.Endless)) = Unit {0}
+abbrev pub IsRunTold : Bool → List ℕ → RunOutcome → Type 0
+IsRunTold cut input (prints text (Ok summary)) = PrintsAddedUp (answered_lines cut (input_lines input)) text
+IsRunTold cut input (prints text (Err run_faults.Read)) = PrintsAddedUp (answered_lines cut (input_lines input)) text
+IsRunTold cut input (prints text (Err (run_faults.Line number fault))) = PrintsAddedUp (take (number - 1) (input_lines input)) text
+IsRunTold cut input (prints text (Err run_faults.Write)) = Unit {0}
+IsRunTold cut input (prints text (Err run_faults.Memory)) = Unit {0}
+IsRunTold cut input (prints text (Err run_faults.Start)) = Unit {0}
+IsRunTold cut input (prints text (Err run_faults.Endless)) = Unit {0}
 
 -- What one thread prints for a script is so.
 abbrev pub ThreadIsTold : Type 0
-ThreadIsTold = (workers : Option ℕ) (cut : Bool) (input : List ℕ) → IsTold cut input (outcome workers cut input)
+ThreadIsTold = (workers : Option ℕ) (cut : Bool) (input : List ℕ) → IsRunTold cut input (run_outcome workers cut input)
 
 -- What any number of workers print is so for a script with the arrivals of each batch in some order.
 abbrev pub RunIsTold : Type 0
-RunIsTold = (workers : Option ℕ) (cut : Bool) (input : List ℕ) (o : Outcome) → IsOutcome workers cut input o → (other : List ℕ) × IsReordered cut input other × IsTold cut other o
+RunIsTold = (workers : Option ℕ) (cut : Bool) (input : List ℕ) (o : RunOutcome) → IsOutcome workers cut input o → (other : List ℕ) × IsReordered cut input other × IsRunTold cut other o

@@ -21,7 +21,7 @@ use Rattle.wb_dialog.specs.declared.line.DriverLine.TheVariants.{Script, Say, Ca
 use Rattle.wb_dialog.specs.Dialog.{batch_of, says_line, version_line}
 use Rattle.wb_dialog.specs.Doing.{text_in}
 use Rattle.wb_dialog.specs.Hosting.{Host, Driven, Kept, Hosting, Reply, prints, denies, came_text, reply_of, unsent_text}
-use Rattle.wb_laws_hosts.specs.Texts.{sent_at}
+use Rattle.wb_laws_hosts.specs.Texts.{sent_for_line}
 
 -- what is printed for a question
 abbrev pub answered : Query → Opened → List ℕ
@@ -87,4 +87,4 @@ told_at s line = told_by (reply_of s (met line)) (told_said s.host (says_line (m
 -- tells. So all that is sent can be read off the blocks.
 abbrev pub TextsTellSends : Type 0
 TextsTellSends = (s : Hosting) (line : InputLine)
-    → text_in (reply_of s (met line)) ≡ sends_text (sent_at s line) ++ told_at s line
+    → text_in (reply_of s (met line)) ≡ sends_text (sent_for_line s line) ++ told_at s line

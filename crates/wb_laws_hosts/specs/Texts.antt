@@ -22,15 +22,15 @@ use Rattle.wb_laws_sessions.specs.Sessions.{Step, host_at, sent_by_deeds, steps_
 use Rattle.wb_laws_sessions.specs.Members.{Deed, Does, Opens}
 
 -- A process starts, and the one before it at its place is gone; or it is handed a line.
-pub data Event : Type 0 where
-  Starts : (tuning : Tuning) → Event
-  Takes : (line : InputLine) → Event
+pub data TextEvent : Type 0 where
+  Starts : (tuning : Tuning) → TextEvent
+  Takes : (line : InputLine) → TextEvent
 
 pub record EventAt : Type 0 where
   pub place : ℕ
-  pub event : Event
+  pub event : TextEvent
 
-abbrev pub hosting_after_event : Event → Hosting → Hosting
+abbrev pub hosting_after_event : TextEvent → Hosting → Hosting
 hosting_after_event (Starts tuning) s = unopened tuning
 hosting_after_event (Takes line) s = hosting_after s (reply_of s (met line))
 
@@ -77,10 +77,10 @@ deeds_kept (driver.Came now v) k = deeds_doing (came now v) k
 deeds_kept (driver.Add a) k = deeds_doing (adds a.moment a.page a.time a.op) k
 deeds_kept line k = []
 
-abbrev pub deeds_of : Tuning → Option Host → DriverLine → List Deed
-deeds_of tuning None line = deeds_first tuning line
-deeds_of tuning (Some (Driven host board)) line = deeds_driven line
-deeds_of tuning (Some (Kept k)) line = deeds_kept line k
+abbrev pub deeds_of_line : Tuning → Option Host → DriverLine → List Deed
+deeds_of_line tuning None line = deeds_first tuning line
+deeds_of_line tuning (Some (Driven host board)) line = deeds_driven line
+deeds_of_line tuning (Some (Kept k)) line = deeds_kept line k
 
 -- a line that is refused is no deed
 abbrev pub deeds_by : Reply → List Deed → List Deed
@@ -88,13 +88,13 @@ deeds_by (prints next text) deeds = deeds
 deeds_by (denies e) deeds = []
 
 abbrev pub deeds_said : Tuning → Option Host → Result DriverLine Refusal → List Deed
-deeds_said tuning s (Ok line) = deeds_of tuning s line
+deeds_said tuning s (Ok line) = deeds_of_line tuning s line
 deeds_said tuning s (Err e) = []
 
 abbrev pub deeds_at : Hosting → InputLine → List Deed
 deeds_at s line = deeds_by (reply_of s (met line)) (deeds_said s.tuning s.host (says_line (met line)))
 
-abbrev pub deeds_of_event : Event → Hosting → List Deed
+abbrev pub deeds_of_event : TextEvent → Hosting → List Deed
 deeds_of_event (Starts tuning) s = []
 deeds_of_event (Takes line) s = deeds_at s line
 
@@ -111,7 +111,7 @@ abbrev pub IsOf : ℕ → Option Host → Result DriverLine Refusal → Type 0
 IsOf number None (Ok (driver.Script (lines.Board member cells workers seed))) = member ≡ number
 IsOf number s said = Unit {0}
 
-abbrev pub IsNumbered : ℕ → Event → Hosting → Type 0
+abbrev pub IsNumbered : ℕ → TextEvent → Hosting → Type 0
 IsNumbered number (Starts tuning) s = Unit {0}
 IsNumbered number (Takes line) s = IsOf number s.host (says_line (met line))
 
@@ -140,8 +140,8 @@ sent_at_host None deeds = []
 sent_at_host (Some (Driven host board)) deeds = sent_by_deeds deeds host
 sent_at_host (Some (Kept k)) deeds = sent_by_deeds deeds k.host
 
-abbrev pub sent_at : Hosting → InputLine → List Datagram
-sent_at s line = sent_at_host s.host (deeds_at s line)
+abbrev pub sent_for_line : Hosting → InputLine → List Datagram
+sent_for_line s line = sent_at_host s.host (deeds_at s line)
 
 -- a datagram comes out: at some point a line is handed in for which its `send` line is printed
 pub record CameOut (events : List EventAt) (v : Datagram) : Type 0 where
@@ -151,4 +151,4 @@ pub record CameOut (events : List EventAt) (v : Datagram) : Type 0 where
   pub split : events ≡ newer ++ e ∷ older
   pub line : InputLine
   pub takes : e.event ≡ Takes line
-  pub out : Contains (map send_line (sent_at (hosting_at older e.place) line)) (send_line v)
+  pub out : Contains (map send_line (sent_for_line (hosting_at older e.place) line)) (send_line v)

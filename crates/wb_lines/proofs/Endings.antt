@@ -6,15 +6,15 @@ use Rattle.wb_lines.specs.declared.fault.DriveFault.{DriveFault}
 use Rattle.wb_lines.specs.declared.fault.DriveFault.TheVariants as faults
 use Rattle.wb_lines.specs.declared.lines.Seen.{Seen}
 use Rattle.wb_lines.specs.declared.lines.Seen.TheVariants as seens
-use Rattle.wb_lines.specs.Ahead.{Ahead, Pulls}
+use Rattle.wb_lines.specs.Ahead.{Ahead, ReadsAhead}
 use Rattle.wb_lines.specs.Input.{input_lines, MayRemain}
 use Rattle.wb_lines.specs.Items.{Items, Grouping, items_from}
 use Rattle.wb_lines.specs.Groups.{Steps, IsOutcomeOf, IsOutcome, group_rules}
 use Rattle.wb_lines.specs.Driving.{Outcome, writes, before, stop, Gave, IsStop, Meets}
-use Rattle.wb_lines.specs.Moments.{LinesValue, MayCome, Moment, moment, Moves, IsTrue, at_start}
-use Rattle.wb_lines.specs.Output.{Sends}
+use Rattle.wb_lines.specs.Moments.{LinesValue, MayCome, Moment, moment, Moves, FailuresHappened, at_start}
+use Rattle.wb_lines.specs.Output.{SendsOut}
 use Rattle.wb_lines.specs.Steps.{Begins, OutcomeAt, Answers, IsLeftAt, EndsSo, DrivesAll, Settles, Closes, MeetsOne}
-use Rattle.wb_lines.proofs.KnownBytes.{Appends-none, Consumes-none, Sends-then}
+use Rattle.wb_lines.proofs.KnownBytes.{Appends-none, Consumes-none, SendsOut-then}
 use Rattle.wb_lines.proofs.Outcomes.{Total, some_outcome}
 
 -- nothing was read yet
@@ -58,7 +58,7 @@ input_of ended failed (Some all) None given c at_end = absurd c
 input_of ended true (Some all) (Some rest) given c at_end = given_alone ended true given (Some all) (Some rest) c
 input_of ended false (Some all) (Some rest) given c at_end = record { more = rest; gave = c; remains = record { none_after_end = at_end; none_after_failure = λ h. absurd (false≢true h) } }
 
-input_from : (r : Ahead) (left left' : Option (List ℕ)) (failed failed' : Bool) (given : List ℕ) → Pulls fresh r left left' failed failed' given → Input r.ended failed' left left' given
+input_from : (r : Ahead) (left left' : Option (List ℕ)) (failed failed' : Bool) (given : List ℕ) → ReadsAhead fresh r left left' failed failed' given → Input r.ended failed' left left' given
 input_from r left left' failed failed' given pulls = input_of r.ended failed' left left' given pulls.consumes (pulls.at_end (λ e. absurd (false≢true e)))
 
 -- if nothing was read or written
@@ -67,7 +67,7 @@ input_none left failed = input_of false failed left left [] (Consumes-none left)
 
 -- ---- what may still come
 
-pub may_come : {T : Type 0} (m : Moment T) (more : List ℕ) → IsTrue m → (m.lines.reader.ended ≡ true → m.failed ≡ false) → MayRemain m.lines.reader.ended m.failed more → MayCome m.lines more m.failed
+pub may_come : {T : Type 0} (m : Moment T) (more : List ℕ) → FailuresHappened m → (m.lines.reader.ended ≡ true → m.failed ≡ false) → MayRemain m.lines.reader.ended m.failed more → MayCome m.lines more m.failed
 may_come {T = T} m more is_true working may = at m.lines.seen refl where
   plain : m.lines.reader.ended ≡ true → (more ≡ []) × (m.failed ≡ false)
   plain e = (may.none_after_end e, working e)
@@ -113,7 +113,7 @@ meets_of A B is_at sent result h m = (m.0, m.1, h m.0 m.1 m.2, m.3, m.4)
 
 -- From the first moment, at which nothing was read, to the last.
 all_met : {S F T : Type 0} {a b : Moment T} (by : Grouping) (Does : Steps S F) (most : ℕ) (is_at : S → Type 0) (s : S) (x y sent left : List ℕ) (ending result : Result ℕ (DriveFault F)) (m : Moves a b x)
-    → a.lines ≡ at_start most → IsTrue b → x ++ y ≡ sent ++ left → ((more : List ℕ) (cut : Bool) → MayCome b.lines more cut → EndsSo is_at (OutcomeAt by Does a.lines s (m.given ++ more) cut) x ending) → Closes ending y left result
+    → a.lines ≡ at_start most → FailuresHappened b → x ++ y ≡ sent ++ left → ((more : List ℕ) (cut : Bool) → MayCome b.lines more cut → EndsSo is_at (OutcomeAt by Does a.lines s (m.given ++ more) cut) x ending) → Closes ending y left result
     → (input : Input b.lines.reader.ended b.failed a.left b.left m.given) → MeetsOne (IsOutcome (group_rules by Does most) b.failed s (m.given ++ input.more)) is_at sent result
 all_met {S = S} {F = F} {a = a} {b = b} by Does most is_at s x y sent left ending result m start is_true split d c input =
     meets_of (OutcomeAt by Does a.lines s (m.given ++ input.more) b.failed) (IsOutcome (group_rules by Does most) b.failed s (m.given ++ input.more)) is_at sent result
@@ -125,7 +125,7 @@ all_met {S = S} {F = F} {a = a} {b = b} by Does most is_at s x y sent left endin
       may = may_come b input.more is_true (m.pulls.working_at_end fresh_still) input.remains
 
 -- at the start nothing was found of a source or a sink, so what is found later is true
-pub true_later : {T : Type 0} {b : Moment T} (most : ℕ) (left taken : Option (List ℕ)) (failed stuck : Bool) (x : List ℕ) → Moves (moment (at_start most) [] left failed taken stuck) b x → IsTrue b
+pub true_later : {T : Type 0} {b : Moment T} (most : ℕ) (left taken : Option (List ℕ)) (failed stuck : Bool) (x : List ℕ) → Moves (moment (at_start most) [] left failed taken stuck) b x → FailuresHappened b
 true_later most left taken failed stuck x m = m.true_still (record { failed = λ e. absurd cc; stuck = λ e. absurd cc })
 
 -- What a driver read and wrote in all, from its start to where it closed.
@@ -135,9 +135,9 @@ MeetsAll by Does most was_at is_at left left' failed taken taken' result = (inpu
 
 pub meets_all : {S F T : Type 0} {b : Moment T} (by : Grouping) (Does : Steps S F) (most : ℕ) (was_at is_at : S → Type 0) (left taken taken' : Option (List ℕ)) (failed stuck : Bool) (waiting : List ℕ) (ending result : Result ℕ (DriveFault F))
     → DrivesAll by Does was_at is_at (moment (at_start most) [] left failed taken stuck) b ending
-    → ((y : List ℕ) × Sends b.taken b.output taken' waiting y × Closes ending y waiting result) → MeetsAll by Does most was_at is_at left b.left b.failed taken taken' result
+    → ((y : List ℕ) × SendsOut b.taken b.output taken' waiting y × Closes ending y waiting result) → MeetsAll by Does most was_at is_at left b.left b.failed taken taken' result
 meets_all {b = b} by Does most was_at is_at left taken taken' failed stuck waiting ending result all end =
-    let sends = Sends-then taken b.taken taken' [] b.output waiting all.0 end.0 all.1.sends end.1 in
+    let sends = SendsOut-then taken b.taken taken' [] b.output waiting all.0 end.0 all.1.sends end.1 in
     let input = input_from b.lines.reader left b.left failed b.failed all.1.given all.1.pulls in (
       all.1.given ++ input.more,
       sends.0,

@@ -6,13 +6,13 @@ use Rattle.wb_lines.specs.declared.lines.First.TheVariants as firsts
 use Rattle.wb_lines.specs.Input.{InputLine, input_lines}
 use Rattle.wb_lines.specs.Handling.{Met, whole, too_long}
 use Rattle.wb_lines.specs.Items.{Items, group, Grouping, begin, items_from}
-use Rattle.wb_lines.specs.Moments.{LinesValue, MayCome, Moment, Moves, Reads, with_one, TakesSeen, RestOf, TakesFirst, TakesNext}
+use Rattle.wb_lines.specs.Moments.{LinesValue, MayCome, Moment, Moves, Reads, with_one_taken, TakesSeen, RestOf, TakesFirst, TakesNext}
 use Rattle.wb_lines.proofs.GroupedLines.{first_taken, any_group, any_long}
 
 abbrev pub at_lines : {S : Type 0} → Moment S → LinesValue S → Moment S
 at_lines m v = record { lines = v; output = m.output; left = m.left; failed = m.failed; taken = m.taken; stuck = m.stuck }
 
-unfoldable one_more : {S : Type 0} {a b d : Moment S} → Moves a b [] → d ≡ at_lines b (with_one b.lines) → ((more : List ℕ) (cut : Bool) → MayCome (with_one b.lines) more cut → MayCome b.lines more cut) → Moves a d []
+unfoldable one_more : {S : Type 0} {a b d : Moment S} → Moves a b [] → d ≡ at_lines b (with_one_taken b.lines) → ((more : List ℕ) (cut : Bool) → MayCome (with_one_taken b.lines) more cut → MayCome b.lines more cut) → Moves a d []
 one_more m same may = record {
   given = m.given;
   pulls = rw same m.pulls;

@@ -8,11 +8,11 @@ use Rattle.wb_lines.specs.Ahead.{Ahead}
 use Rattle.wb_lines.specs.Input.{InputLine, input_lines, standing, MayFollow, most_bytes}
 use Rattle.wb_lines.specs.Handling.{whole, too_long}
 use Rattle.wb_lines.specs.Taking.{is_short, is_passed}
-use Rattle.wb_lines.specs.Items.{finished, unreadable, endless, Items, over, group, Grouping, Begun, begin, grown, and_line, Entry, short, long, none, entry, items_from}
-use Rattle.wb_lines.specs.Moments.{LinesValue, IsRead, StartsLong, IsSound, MayCome, Rest, unread, with_one, IsGroupEnd, Moment, Reads, grown_by, Gathers, IsJoining, IsLineSeen, TakesLine, TakesJoined}
+use Rattle.wb_lines.specs.Items.{finished, unreadable, endless, Items, over, group, Grouping, Begun, begin, grown, and_line, LineEntry, short, long, none, entry, items_from}
+use Rattle.wb_lines.specs.Moments.{LinesValue, IsRead, StartsLong, KnowsLines, MayCome, Rest, unread, with_one_taken, IsGroupEnd, Moment, Reads, grown_by, Gathers, IsJoining, IsLineSeen, TakesSeenLine, TakesJoined}
 use Rattle.wb_lines.proofs.Moments.{Reads-then}
-use Rattle.wb_lines.proofs.KnownBytes.{Sends-none}
-use Rattle.wb_lines.proofs.LineBytes.{Pulls-none}
+use Rattle.wb_lines.proofs.KnownBytes.{SendsOut-none}
+use Rattle.wb_lines.proofs.LineBytes.{ReadsAhead-none}
 use Rattle.wb_lines.proofs.InputLines.{input_lines-whole, input_lines-last, StartsLine, starts_line}
 
 -- ---- a line that was read
@@ -59,12 +59,12 @@ items_taken by v said g more cut seen few is may =
 
 -- It is the first of a group.
 pub first_taken : {S : Type 0} (by : Grouping) (v : LinesValue S) (said : S) (more : List ℕ) (cut : Bool) (is : Items) → v.seen ≡ seens.Line said → v.done < v.most → IsRead v.line v.reader → MayCome v more cut
-    → Rest by (with_one v) (Some (begin (v.done + 1) v.line)) more cut is → Rest by v None more cut is
+    → Rest by (with_one_taken v) (Some (begin (v.done + 1) v.line)) more cut is → Rest by v None more cut is
 first_taken by v said more cut is seen few read may rest = let e = items_taken by v said None more cut seen few read may in rw seen (rest ∙ sym (rw seen at e))
 
 -- It joins one.
 pub joined_taken : {S : Type 0} (by : Grouping) (v : LinesValue S) (said : S) (g : Begun) (more : List ℕ) (cut : Bool) (is : Items) → v.seen ≡ seens.Line said → v.done < v.most → IsRead v.line v.reader → by.gathers g.first ≡ true → by.joins v.line ≡ true
-    → MayCome v more cut → Rest by (with_one v) (Some (grown g v.line)) more cut is → Rest by v (Some g) more cut is
+    → MayCome v more cut → Rest by (with_one_taken v) (Some (grown g v.line)) more cut is → Rest by v (Some g) more cut is
 joined_taken by v said g more cut is seen few read gathers joins may rest =
     let e = items_taken by v said (Some g) more cut seen few read may in
     let here : is ≡ and_line by v.done (Some g) v.line (λ next. items_from by v.most cut (v.done + 1) next (input_lines (v.reader.bytes ++ more))) = rw (gathers, joins) rest in
@@ -84,7 +84,7 @@ parted by most n cut g (line ∷ lines) p = at (entry most cut n line) refl p wh
   no_entry true passed e = absurd cc
   no_entry false passed e = absurd cc
 
-  at : (e : Entry) → entry most cut n line ≡ e → ((by.gathers g.first && by.joins line) ≡ false) ⊎ (is_short line ≡ false)
+  at : (e : LineEntry) → entry most cut n line ≡ e → ((by.gathers g.first && by.joins line) ≡ false) ⊎ (is_short line ≡ false)
       → items_from by most cut n (Some g) (line ∷ lines) ≡ group g.number (whole g.first) g.joined (items_from by most cut n None (line ∷ lines))
   at short e (inl p) = rw (e, p) refl
   at short e (inr p) = absurd (no_entry (nat_lt n most) (is_passed line) (rw p at e))
@@ -100,7 +100,7 @@ pub record Begins (g : Begun) (is : Items) : Type 0 where
 pub any_group : (by : Grouping) (most n : ℕ) (cut : Bool) (g : Begun) (lines : List InputLine) → Begins g (items_from by most cut n (Some g) lines)
 any_group by most n cut g [] = record { joined = g.joined; rest = over (if cut then unreadable else finished n); same = refl }
 any_group by most n cut g (line ∷ lines) = at (entry most cut n line) (by.gathers g.first && by.joins line) refl refl (any_group by most (n + 1) cut (grown g line) lines) where
-  at : (e : Entry) (b : Bool) → entry most cut n line ≡ e → (by.gathers g.first && by.joins line) ≡ b → Begins (grown g line) (items_from by most cut (n + 1) (Some (grown g line)) lines)
+  at : (e : LineEntry) (b : Bool) → entry most cut n line ≡ e → (by.gathers g.first && by.joins line) ≡ b → Begins (grown g line) (items_from by most cut (n + 1) (Some (grown g line)) lines)
       → Begins g (items_from by most cut n (Some g) (line ∷ lines))
   at short true e p on = rw (e, p) (record { joined = on.joined; rest = on.rest; same = on.same })
   at short false e p on = rw (e, p) (record { joined = g.joined; rest = items_from by most cut (n + 1) (Some (begin (n + 1) line)) lines; same = refl })
@@ -149,7 +149,7 @@ pub first_parts : (by : Grouping) (g : Begun) (lines : List InputLine) → by.ga
 first_parts by g [] e = tt
 first_parts by g (line ∷ lines) e = inl (rw e refl)
 
-pub group_end : {S : Type 0} (by : Grouping) (says : InputLine → S → Type 0) (v : LinesValue S) (g : Begun) (more : List ℕ) (cut : Bool) (is : Items) → IsSound says v → IsGroupEnd by g.first v → MayCome v more cut
+pub group_end : {S : Type 0} (by : Grouping) (says : InputLine → S → Type 0) (v : LinesValue S) (g : Begun) (more : List ℕ) (cut : Bool) (is : Items) → KnowsLines says v → IsGroupEnd by g.first v → MayCome v more cut
     → Rest by v None more cut is → Rest by v (Some g) more cut (group g.number (whole g.first) g.joined is)
 group_end {S = S} by says v g more cut is sound end may rest = at v.seen refl where
   parts : (s : Seen S) → v.seen ≡ s → Parts by g (input_lines (unread v ++ more)) → is ≡ items_from by v.most cut v.done None (input_lines (unread v ++ more))
@@ -183,12 +183,12 @@ group_end {S = S} by says v g more cut is sound end may rest = at v.seen refl wh
 -- ---- the next line, where it joins
 
 pub Reads-joined : {S : Type 0} {a b : Moment S} (by : Grouping) (said : S) → a.lines.seen ≡ seens.Line said → a.lines.done < a.lines.most → IsRead a.lines.line a.lines.reader → by.joins a.lines.line ≡ true
-    → b ≡ record { lines = with_one a.lines; output = a.output; left = a.left; failed = a.failed; taken = a.taken; stuck = a.stuck } → Reads by a b [] (a.lines.line ∷ [])
+    → b ≡ record { lines = with_one_taken a.lines; output = a.output; left = a.left; failed = a.failed; taken = a.taken; stuck = a.stuck } → Reads by a b [] (a.lines.line ∷ [])
 Reads-joined {a = a} {b = b} by said seen few read joins same = rw same (record {
   moves = record {
     given = [];
-    pulls = Pulls-none a.lines.reader a.left a.failed;
-    sends = Sends-none a.taken a.output;
+    pulls = ReadsAhead-none a.lines.reader a.left a.failed;
+    sends = SendsOut-none a.taken a.output;
     most = refl;
     done = omega arith;
     true_still = λ t. record { failed = λ e. absurd cc; stuck = λ e. absurd cc };
@@ -196,7 +196,7 @@ Reads-joined {a = a} {b = b} by said seen few read joins same = rw same (record 
   };
   joins = joins_one;
 }) where
-  joins_one : (g : Option Begun) (more : List ℕ) (cut : Bool) (is : Items) → Gathers by g (a.lines.line ∷ []) → MayCome (with_one a.lines) more cut → Rest by (with_one a.lines) (grown_by g (a.lines.line ∷ [])) more cut is → Rest by a.lines g more cut is
+  joins_one : (g : Option Begun) (more : List ℕ) (cut : Bool) (is : Items) → Gathers by g (a.lines.line ∷ []) → MayCome (with_one_taken a.lines) more cut → Rest by (with_one_taken a.lines) (grown_by g (a.lines.line ∷ [])) more cut is → Rest by a.lines g more cut is
   joins_one None more cut is gathers may rest = absurd gathers
   joins_one (Some g) more cut is gathers may rest = joined_taken by a.lines said g more cut is seen few read gathers joins (rw seen may) rest
 
@@ -208,7 +208,7 @@ pub is_joining : {S : Type 0} (by : Grouping) (line : InputLine) (seen : Seen S)
 is_joining by line seen said e h = sym (rw e at h)
 
 -- The next line was looked at, and was taken.
-pub takes_joined : {S : Type 0} {a b d : Moment S} (says : InputLine → S → Type 0) (by : Grouping) (result : Option S) → Reads by a b [] [] → IsJoining by b.lines.line b.lines.seen true → TakesLine says b.lines d.lines result → b.lines.done ≡ a.lines.done
+pub takes_joined : {S : Type 0} {a b d : Moment S} (says : InputLine → S → Type 0) (by : Grouping) (result : Option S) → Reads by a b [] [] → IsJoining by b.lines.line b.lines.seen true → TakesSeenLine says b.lines d.lines result → b.lines.done ≡ a.lines.done
     → d ≡ record { lines = d.lines; output = b.output; left = b.left; failed = b.failed; taken = b.taken; stuck = b.stuck } → TakesJoined says by a d result
 takes_joined {a = a} {b = b} {d = d} says by (Some said) reads joins t count same =
     let one : Reads by b d [] (b.lines.line ∷ []) = Reads-joined by said t.0 t.2 t.3 (is_joining by b.lines.line b.lines.seen said t.0 joins) (same ∙ ap (λ (v : LinesValue _). record { lines = v; output = b.output; left = b.left; failed = b.failed; taken = b.taken; stuck = b.stuck }) t.1) in

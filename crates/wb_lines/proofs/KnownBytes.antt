@@ -1,7 +1,7 @@
 -- What sources gave and sinks took, step after step.
 use Rattle.std.proofs.Common.{◌≡◌, ℕ, List, [], ◌++◌, refl, ap, ◌∙◌, append_assoc, sym, append-nil, Option, Some, None}
 use Rattle.std.specs.Io.KnownBytes.{Appends, Consumes}
-use Rattle.wb_lines.specs.Output.{Sends}
+use Rattle.wb_lines.specs.Output.{SendsOut}
 
 pub Appends-then : (a b c : Option (List ℕ)) (x y : List ℕ) → Appends a b x → Appends b c y → Appends a c (x ++ y)
 Appends-then None b c x y p q = tt
@@ -23,14 +23,14 @@ pub Consumes-none : (a : Option (List ℕ)) → Consumes a a []
 Consumes-none None = tt
 Consumes-none (Some xs) = refl
 
-pub Sends-none : (a : Option (List ℕ)) (x : List ℕ) → Sends a x a x []
-Sends-none a x = ([], Appends-none a, append-nil x)
+pub SendsOut-none : (a : Option (List ℕ)) (x : List ℕ) → SendsOut a x a x []
+SendsOut-none a x = ([], Appends-none a, append-nil x)
 
-pub Sends-more : (a : Option (List ℕ)) (x y text : List ℕ) → y ≡ x ++ text → Sends a x a y text
-Sends-more a x y text e = ([], Appends-none a, sym e)
+pub SendsOut-more : (a : Option (List ℕ)) (x y text : List ℕ) → y ≡ x ++ text → SendsOut a x a y text
+SendsOut-more a x y text e = ([], Appends-none a, sym e)
 
-pub Sends-then : (a b c : Option (List ℕ)) (x y z text more : List ℕ) → Sends a x b y text → Sends b y c z more → Sends a x c z (text ++ more)
-Sends-then a b c x y z text more p q = (
+pub SendsOut-then : (a b c : Option (List ℕ)) (x y z text more : List ℕ) → SendsOut a x b y text → SendsOut b y c z more → SendsOut a x c z (text ++ more)
+SendsOut-then a b c x y z text more p q = (
   p.0 ++ q.0,
   Appends-then a b c p.0 q.0 p.1 q.1,
   sym (append_assoc x text more) ∙ ap (λ (t : List ℕ). t ++ more) p.2 ∙ append_assoc p.0 y more ∙ ap (λ (t : List ℕ). p.0 ++ t) q.2 ∙ sym (append_assoc p.0 q.0 z),

@@ -3,11 +3,11 @@ use Rattle.std.proofs.Common.{◌≡◌, ◌≢◌, ◌≤◌, ◌<◌, ◌+◌,
 use Rattle.std.proofs.lemmas.List.{take-append-drop, take-take, drop-drop, drop-take, length-take, length-append}
 use Rattle.memchr.specs.Find.{IsFirstByte, is_byte}
 use Rattle.std.proofs.lemmas.Bool.Decides.{nat_tests}
-use Rattle.wb_lines.specs.Ahead.{Ahead, Pulls, NoLineFeed, TakesRun, PassesRun}
+use Rattle.wb_lines.specs.Ahead.{Ahead, ReadsAhead, NoLineFeed, TakesRun, PassesRun}
 use Rattle.wb_lines.proofs.KnownBytes.{Consumes-none, Consumes-then}
 
-pub Pulls-then : (a b c : Ahead) (l0 l1 l2 : Option (List ℕ)) (f0 f1 f2 : Bool) (x y : List ℕ) → Pulls a b l0 l1 f0 f1 x → Pulls b c l1 l2 f1 f2 y → Pulls a c l0 l2 f0 f2 (x ++ y)
-Pulls-then a b c l0 l1 l2 f0 f1 f2 x y p q = record {
+pub ReadsAhead-then : (a b c : Ahead) (l0 l1 l2 : Option (List ℕ)) (f0 f1 f2 : Bool) (x y : List ℕ) → ReadsAhead a b l0 l1 f0 f1 x → ReadsAhead b c l1 l2 f1 f2 y → ReadsAhead a c l0 l2 f0 f2 (x ++ y)
+ReadsAhead-then a b c l0 l1 l2 f0 f1 f2 x y p q = record {
   consumes = Consumes-then l0 l1 l2 x y p.consumes q.consumes;
   none_after_end = λ e. ap (λ (t : List ℕ). t ++ y) (p.none_after_end e) ∙ q.none_after_end (p.end_stays e);
   end_stays = λ e. q.end_stays (p.end_stays e);
@@ -22,8 +22,8 @@ pub NoLineFeed-push : (line : List ℕ) (b : ℕ) → NoLineFeed line → b ≢ 
 NoLineFeed-push [] b h ne = (ne, tt)
 NoLineFeed-push (a ∷ line) b h ne = (h.0, NoLineFeed-push line b h.1 ne)
 
-pub Pulls-none : (a : Ahead) (l : Option (List ℕ)) (f : Bool) → Pulls a a l l f f []
-Pulls-none a l f = record {
+pub ReadsAhead-none : (a : Ahead) (l : Option (List ℕ)) (f : Bool) → ReadsAhead a a l l f f []
+ReadsAhead-none a l f = record {
   consumes = Consumes-none l;
   none_after_end = λ e. refl;
   end_stays = λ e. e;
@@ -32,8 +32,8 @@ Pulls-none a l f = record {
 }
 
 -- what was pulled stays so while bytes are only moved
-pub Pulls-on : (a b c : Ahead) (l l' : Option (List ℕ)) (f f' : Bool) (x : List ℕ) → c.ended ≡ b.ended → Pulls a b l l' f f' x → Pulls a c l l' f f' x
-Pulls-on a b c l l' f f' x e p = record {
+pub ReadsAhead-on : (a b c : Ahead) (l l' : Option (List ℕ)) (f f' : Bool) (x : List ℕ) → c.ended ≡ b.ended → ReadsAhead a b l l' f f' x → ReadsAhead a c l l' f f' x
+ReadsAhead-on a b c l l' f f' x e p = record {
   consumes = p.consumes;
   none_after_end = p.none_after_end;
   end_stays = λ is. e ∙ p.end_stays is;

@@ -5,8 +5,8 @@ use Rattle.std.proofs.lemmas.Bool.Decides.{nat_tests}
 use Rattle.wb_lines.specs.declared.lines.Seen.TheVariants as seens
 use Rattle.wb_lines.specs.declared.line_reader.Found.{Found}
 use Rattle.wb_lines.specs.declared.line_reader.Found.TheVariants as founds
-use Rattle.wb_lines.specs.Ahead.{Pulls, NoLineFeed, PassesOver}
-use Rattle.wb_lines.specs.Output.{Sends}
+use Rattle.wb_lines.specs.Ahead.{ReadsAhead, NoLineFeed, PassesOver}
+use Rattle.wb_lines.specs.Output.{SendsOut}
 use Rattle.wb_lines.specs.Input.{input_lines, most_bytes, MayFollow}
 use Rattle.wb_lines.specs.Handling.{too_long}
 use Rattle.wb_lines.specs.Taking.{most_passed}
@@ -73,7 +73,7 @@ over_far by most n cut front rest bytes given more after few is none far e =
 
 -- ---- from one moment to another
 
-pub passes : {S : Type 0} {a b : Moment S} (by : Grouping) (given rest : List ℕ) (found : Found) → a.lines.seen ≡ seens.Nothing → a.lines.done ≤ a.lines.most → Pulls a.lines.reader b.lines.reader a.left b.left a.failed b.failed given → Sends a.taken a.output b.taken b.output []
+pub passes : {S : Type 0} {a b : Moment S} (by : Grouping) (given rest : List ℕ) (found : Found) → a.lines.seen ≡ seens.Nothing → a.lines.done ≤ a.lines.most → ReadsAhead a.lines.reader b.lines.reader a.left b.left a.failed b.failed given → SendsOut a.taken a.output b.taken b.output []
     → b.lines.most ≡ a.lines.most → b.lines.done ≡ a.lines.done → b.lines.seen ≡ found_over found → (found ≡ founds.Failed → b.failed ≡ true) → (found ≡ founds.Unwritten → b.stuck ≡ true) → PassesOver a.lines.reader b.lines.reader given b.failed rest found
     → (moves : Moves a b []) × PassesLine by a.lines b.lines moves.given
 passes {S = S} {a = a} {b = b} by given rest found unseen few pulls sends most done seen failed stuck p = (moves, line found refl p) where

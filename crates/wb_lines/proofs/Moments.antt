@@ -3,14 +3,14 @@ use Rattle.std.proofs.Common.{◌≡◌, ℕ, List, [], ◌∷◌, ◌++◌, Opt
 use Rattle.wb_lines.specs.Input.{InputLine}
 use Rattle.wb_lines.specs.Items.{Grouping, Begun}
 use Rattle.wb_lines.specs.Moments.{Moment, MayCome, Rest, Moves, Reads, grown_by, Gathers}
-use Rattle.wb_lines.proofs.KnownBytes.{Sends-none, Sends-more, Sends-then}
-use Rattle.wb_lines.proofs.LineBytes.{Pulls-none, Pulls-then}
+use Rattle.wb_lines.proofs.KnownBytes.{SendsOut-none, SendsOut-more, SendsOut-then}
+use Rattle.wb_lines.proofs.LineBytes.{ReadsAhead-none, ReadsAhead-then}
 
 unfoldable pub Moves-none : {S : Type 0} (m : Moment S) → Moves m m []
 Moves-none m = record {
   given = [];
-  pulls = Pulls-none m.lines.reader m.left m.failed;
-  sends = Sends-none m.taken m.output;
+  pulls = ReadsAhead-none m.lines.reader m.left m.failed;
+  sends = SendsOut-none m.taken m.output;
   most = refl;
   done = omega arith;
   true_still = λ t. t;
@@ -20,8 +20,8 @@ Moves-none m = record {
 unfoldable pub Moves-then : {S : Type 0} (a b c : Moment S) (x y : List ℕ) → Moves a b x → Moves b c y → Moves a c (x ++ y)
 Moves-then a b c x y p q = record {
   given = p.given ++ q.given;
-  pulls = Pulls-then a.lines.reader b.lines.reader c.lines.reader a.left b.left c.left a.failed b.failed c.failed p.given q.given p.pulls q.pulls;
-  sends = Sends-then a.taken b.taken c.taken a.output b.output c.output x y p.sends q.sends;
+  pulls = ReadsAhead-then a.lines.reader b.lines.reader c.lines.reader a.left b.left c.left a.failed b.failed c.failed p.given q.given p.pulls q.pulls;
+  sends = SendsOut-then a.taken b.taken c.taken a.output b.output c.output x y p.sends q.sends;
   most = q.most ∙ p.most;
   done = omega (arith, p.done, q.done);
   true_still = λ t. q.true_still (p.true_still t);
@@ -74,8 +74,8 @@ Reads-then by a b c x y js ks p q = record {
 unfoldable pub Moves-prints : {S : Type 0} (a b : Moment S) (text : List ℕ) → b.lines ≡ a.lines → b.left ≡ a.left → b.failed ≡ a.failed → b.taken ≡ a.taken → b.stuck ≡ a.stuck → b.output ≡ a.output ++ text → Moves a b text
 Moves-prints a b text lines left failed taken stuck prints = record {
   given = [];
-  pulls = rw (lines, left, failed) (Pulls-none a.lines.reader a.left a.failed);
-  sends = rw taken (Sends-more a.taken a.output b.output text prints);
+  pulls = rw (lines, left, failed) (ReadsAhead-none a.lines.reader a.left a.failed);
+  sends = rw taken (SendsOut-more a.taken a.output b.output text prints);
   most = rw lines refl;
   done = rw lines (omega arith);
   true_still = λ t. record { failed = rw (lines, failed) t.failed; stuck = rw (lines, stuck) t.stuck };

@@ -7,12 +7,12 @@ use Rattle.wb_lines.specs.declared.handler.Stop.TheVariants as handler_stops
 use Rattle.wb_lines.specs.declared.fault.DriveFault.{DriveFault}
 use Rattle.wb_lines.specs.declared.fault.DriveFault.TheVariants as faults
 use Rattle.wb_lines.specs.Input.{InputLine, most_bytes, BeginsWith}
-use Rattle.wb_lines.specs.Handling.{Met, whole, Step, goes, stops, ends, text_of}
+use Rattle.wb_lines.specs.Handling.{Met, whole, Step, goes, stops, ends, step_text}
 use Rattle.wb_lines.specs.Taking.{most_passed}
 use Rattle.wb_lines.specs.Driving.{Rules, Outcome, writes, before, stop, proceed, outcome_from}
 use Rattle.wb_lines.specs.Items.{Items, over, group}
 use Rattle.wb_lines.specs.Groups.{Steps, answer_of, IsOutcomeOf}
-use Rattle.wb_lines.specs.Steps.{fault_of, DoesOne, Begins, Answers}
+use Rattle.wb_lines.specs.Steps.{driver_fault, DoesOne, Begins, Answers}
 
 -- ---- what was written before
 
@@ -66,7 +66,7 @@ some_outcome {S = S} {F = F} Does total (group number met joined rest) s = let o
   at (ends text) d more = record { o = before text (stop (Err faults.Endless)); u = s; is_one = (ends text, d, refl) }
 
 -- Of a step that may be done, of whose text a front was written.
-pub begun_outcome : {S F : Type 0} (Does : Steps S F) → Total Does → (number : ℕ) (met : Met) (joined : List InputLine) (rest : Items) (s : S) (step : Step S F) (printed : List ℕ) → Does s number met joined step → BeginsWith (text_of step) printed
+pub begun_outcome : {S F : Type 0} (Does : Steps S F) → Total Does → (number : ℕ) (met : Met) (joined : List InputLine) (rest : Items) (s : S) (step : Step S F) (printed : List ℕ) → Does s number met joined step → BeginsWith (step_text step) printed
     → (o : Outcome F) × (u : S) × IsOutcomeOf Does (group number met joined rest) s o u × Begins o printed
 begun_outcome Does total number met joined rest s (goes text next) printed d b =
     let then_on = some_outcome Does total rest next in
@@ -79,7 +79,7 @@ begun_outcome {F = F} Does total number met joined rest s (ends text) printed d 
 -- ---- a handler that stops
 
 pub halts : {S F : Type 0} (Does : Steps S F) (is_at : S → Type 0) → Total Does → (number : ℕ) (met : Met) (joined : List InputLine) (rest : Items) (s : S) (printed : List ℕ) (e : Stop F)
-    → DoesOne {U = Unit {0}} is_at printed (Does s number met joined) (Err e) → Answers (IsOutcomeOf Does (group number met joined rest) s) printed s (Err (fault_of number e))
+    → DoesOne {U = Unit {0}} is_at printed (Does s number met joined) (Err e) → Answers (IsOutcomeOf Does (group number met joined rest) s) printed s (Err (driver_fault number e))
 halts Does is_at total number met joined rest s printed (handler_stops.Fault f) d = (stops printed f, d, refl)
 halts Does is_at total number met joined rest s printed handler_stops.Endless d = (ends printed, d, refl)
 halts Does is_at total number met joined rest s printed handler_stops.Memory d = begun_outcome Does total number met joined rest s d.0 printed d.1 d.2

@@ -13,8 +13,8 @@ use Rattle.wb_lines.specs.Handling.{whole, too_long, goes}
 use Rattle.wb_lines.specs.Items.{finished, unreadable, endless, Items, over, group, Grouping, Begun, begin, items_from}
 use Rattle.wb_lines.specs.Driving.{Outcome, before, stop}
 use Rattle.wb_lines.specs.Groups.{Steps, IsOutcomeOf}
-use Rattle.wb_lines.specs.Moments.{LinesValue, IsSound, MayCome, RestBy, Rest, is_broken, Moment, Moves, Reads, EndsBy, TakesFirst, TakesNext}
-use Rattle.wb_lines.specs.Steps.{fault_of, HandlesBy, Handles, Begins, OutcomeAt, EndsSo, DrivesAll}
+use Rattle.wb_lines.specs.Moments.{LinesValue, KnowsLines, MayCome, RestBy, Rest, is_broken, Moment, Moves, Reads, EndsBy, TakesFirst, TakesNext}
+use Rattle.wb_lines.specs.Steps.{driver_fault, HandlesBy, Handles, Begins, OutcomeAt, EndsSo, DrivesAll}
 use Rattle.wb_lines.proofs.Moments.{Moves-none, Moves-then}
 use Rattle.wb_lines.proofs.GroupedLines.{group_end}
 use Rattle.wb_lines.proofs.FirstLines.{any_first}
@@ -57,7 +57,7 @@ goes_on by Does is_at Whole v more cut written total whole_still going =
 
 -- the handler went on
 went : {S F T : Type 0} (by : Grouping) (says : InputLine → T → Type 0) (Does : Steps S F) (was_at is_at : S → Type 0) (Whole : Outcome F → S → Type 0) (first : First T) (u v w : LinesValue T) (taken given more x y : List ℕ) (cut : Bool) → Total Does → TakesFirst says by u v taken first
-    → HandlesBy {U = Unit {0}} by Does was_at is_at first v w given y (Ok tt) → IsSound says w → MayCome w more cut → MayCome v (given ++ more) cut → Goes Does was_at Whole (Rest by u None (taken ++ (given ++ more)) cut) x → Goes Does is_at Whole (Rest by w None more cut) (x ++ y)
+    → HandlesBy {U = Unit {0}} by Does was_at is_at first v w given y (Ok tt) → KnowsLines says w → MayCome w more cut → MayCome v (given ++ more) cut → Goes Does was_at Whole (Rest by u None (taken ++ (given ++ more)) cut) x → Goes Does is_at Whole (Rest by w None more cut) (x ++ y)
 unfolding any_first
 went {S = S} {F = F} by says Does was_at is_at Whole (firsts.Line said) u v w taken given more x y cut total f h sound may before_it p = at (is_broken w.seen) refl where
   follow : (is : Items) → Rest by v (Some (begin v.done v.line)) (given ++ more) cut is → (t : S) × was_at t × ((o : Outcome F) (u : S) → IsOutcomeOf Does is t o u → Whole (before x o) u)
@@ -94,18 +94,18 @@ went by says Does was_at is_at Whole firsts.TooLong u v w taken given more x y c
 
 -- it stopped
 stopped : {S F T : Type 0} (by : Grouping) (says : InputLine → T → Type 0) (Does : Steps S F) (was_at is_at : S → Type 0) (Whole : Outcome F → S → Type 0) (first : First T) (u v w : LinesValue T) (taken given more x y : List ℕ) (cut : Bool) (e : Stop F) → Total Does → TakesFirst says by u v taken first
-    → HandlesBy {U = Unit {0}} by Does was_at is_at first v w given y (Err e) → MayCome v (given ++ more) cut → Goes Does was_at Whole (Rest by u None (taken ++ (given ++ more)) cut) x → EndsSo is_at Whole (x ++ y) (Err (fault_of v.done e))
+    → HandlesBy {U = Unit {0}} by Does was_at is_at first v w given y (Err e) → MayCome v (given ++ more) cut → Goes Does was_at Whole (Rest by u None (taken ++ (given ++ more)) cut) x → EndsSo is_at Whole (x ++ y) (Err (driver_fault v.done e))
 unfolding any_first
 stopped by says Does was_at is_at Whole (firsts.Line said) u v w taken given more x y cut e total f h before_it p =
     let g = any_first says by u v taken (firsts.Line said) f (given ++ more) cut in
     let this : Items = group v.done (whole v.line) g.0 g.1 in
     let t = p.going this (f.rest (given ++ more) cut this before_it g.2) in
-    (t.0, tt, answers_behind (IsOutcomeOf Does this t.0) Whole x y t.0 (Err (fault_of v.done e)) t.2 (halts Does is_at total v.done (whole v.line) g.0 g.1 t.0 y e (h.2 t.0 t.1 g.0)))
+    (t.0, tt, answers_behind (IsOutcomeOf Does this t.0) Whole x y t.0 (Err (driver_fault v.done e)) t.2 (halts Does is_at total v.done (whole v.line) g.0 g.1 t.0 y e (h.2 t.0 t.1 g.0)))
 stopped by says Does was_at is_at Whole firsts.TooLong u v w taken given more x y cut e total f h before_it p =
     let g = any_first says by u v taken firsts.TooLong f (given ++ more) cut in
     let this : Items = group v.done too_long [] g.1 in
     let t = p.going this (f.rest (given ++ more) cut this before_it g.2) in
-    (t.0, tt, answers_behind (IsOutcomeOf Does this t.0) Whole x y t.0 (Err (fault_of v.done e)) t.2 (halts Does is_at total v.done too_long [] g.1 t.0 y e (h.1 t.0 t.1)))
+    (t.0, tt, answers_behind (IsOutcomeOf Does this t.0) Whole x y t.0 (Err (driver_fault v.done e)) t.2 (halts Does is_at total v.done too_long [] g.1 t.0 y e (h.1 t.0 t.1)))
 
 -- ---- one in which there was none
 
@@ -130,14 +130,14 @@ ended {S = S} {F = F} {T = T} by Does is_at Whole v w given more x cut result is
 -- From a moment to another a driver took lines, and its handler was at some states before and is at some now.
 abbrev pub Drove : {S F T : Type 0} → Grouping → (InputLine → T → Type 0) → Steps S F → (S → Type 0) → (S → Type 0) → Moment T → Moment T → Type 0
 Drove by says Does was_at is_at a b = (printed : List ℕ) × (moves : Moves a b printed)
-    × ((s : _) → was_at s → (more : List ℕ) (cut : Bool) → MayCome b.lines more cut → IsSound says b.lines → Goes Does is_at (OutcomeAt by Does a.lines s (moves.given ++ more) cut) (Rest by b.lines None more cut) printed)
+    × ((s : _) → was_at s → (more : List ℕ) (cut : Bool) → MayCome b.lines more cut → KnowsLines says b.lines → Goes Does is_at (OutcomeAt by Does a.lines s (moves.given ++ more) cut) (Rest by b.lines None more cut) printed)
 
 pub drive_starts : {S F T : Type 0} (by : Grouping) (says : InputLine → T → Type 0) (Does : Steps S F) (is_at : S → Type 0) (m : Moment T) → Total Does → m.lines.seen ≡ seens.Nothing → Drove by says Does is_at is_at m m
 unfolding Moves-none
 drive_starts by says Does is_at m total seen =
     ([], Moves-none m, λ s at more cut may sound. goes_on by Does is_at (OutcomeAt by Does m.lines s more cut) m.lines more cut [] total (rw seen refl) (λ is rest. (s, at, λ o u one. rw before-nil (is, rest, one))))
 
-pub drive_goes : {S F T : Type 0} {a b c d : Moment T} (by : Grouping) (says : InputLine → T → Type 0) (Does : Steps S F) (was_at is_at is_then : S → Type 0) (first : First T) → Total Does → IsSound says b.lines → TakesNext {F = F} says by b c (Ok (Some first))
+pub drive_goes : {S F T : Type 0} {a b c d : Moment T} (by : Grouping) (says : InputLine → T → Type 0) (Does : Steps S F) (was_at is_at is_then : S → Type 0) (first : First T) → Total Does → KnowsLines says b.lines → TakesNext {F = F} says by b c (Ok (Some first))
     → Handles {U = Unit {0}} by Does is_at is_then first c d (Ok tt) → Drove by says Does was_at is_at a b → Drove by says Does was_at is_then a d
 unfolding Moves-then
 drive_goes {a = a} {b = b} {c = c} {d = d} by says Does was_at is_at is_then first total sound n h p = (
@@ -150,8 +150,8 @@ drive_goes {a = a} {b = b} {c = c} {d = d} by says Does was_at is_at is_then fir
       (went by says Does is_at is_then (OutcomeAt by Does a.lines s (p.1.given ++ (n.0.given ++ (h.1.given ++ more))) cut) first b.lines c.lines d.lines n.0.given h.1.given more p.0 h.0 cut total n.1 h.2 sound_then may before_it so_far),
 )
 
-pub drive_stops : {S F T : Type 0} {a b c d : Moment T} (by : Grouping) (says : InputLine → T → Type 0) (Does : Steps S F) (was_at is_at is_then : S → Type 0) (first : First T) (e : Stop F) → Total Does → IsSound says b.lines → TakesNext {F = F} says by b c (Ok (Some first))
-    → Handles {U = Unit {0}} by Does is_at is_then first c d (Err e) → Drove by says Does was_at is_at a b → DrivesAll by Does was_at is_then a d (Err (fault_of c.lines.done e))
+pub drive_stops : {S F T : Type 0} {a b c d : Moment T} (by : Grouping) (says : InputLine → T → Type 0) (Does : Steps S F) (was_at is_at is_then : S → Type 0) (first : First T) (e : Stop F) → Total Does → KnowsLines says b.lines → TakesNext {F = F} says by b c (Ok (Some first))
+    → Handles {U = Unit {0}} by Does is_at is_then first c d (Err e) → Drove by says Does was_at is_at a b → DrivesAll by Does was_at is_then a d (Err (driver_fault c.lines.done e))
 unfolding Moves-then
 drive_stops {a = a} {b = b} {c = c} {d = d} by says Does was_at is_at is_then first e total sound n h p = (
   p.0 ++ h.0,
@@ -163,7 +163,7 @@ drive_stops {a = a} {b = b} {c = c} {d = d} by says Does was_at is_at is_then fi
       (stopped by says Does is_at is_then (OutcomeAt by Does a.lines s (p.1.given ++ (n.0.given ++ (h.1.given ++ more))) cut) first b.lines c.lines d.lines n.0.given h.1.given more p.0 h.0 cut e total n.1 h.2 before_it so_far),
 )
 
-pub drive_ends : {S F T : Type 0} {a b c : Moment T} (by : Grouping) (says : InputLine → T → Type 0) (Does : Steps S F) (was_at is_at : S → Type 0) (result : Result (Option (First T)) (DriveFault F)) → IsSound says b.lines → Reads by b c [] [] → EndsBy c.lines.seen result
+pub drive_ends : {S F T : Type 0} {a b c : Moment T} (by : Grouping) (says : InputLine → T → Type 0) (Does : Steps S F) (was_at is_at : S → Type 0) (result : Result (Option (First T)) (DriveFault F)) → KnowsLines says b.lines → Reads by b c [] [] → EndsBy c.lines.seen result
     → Drove by says Does was_at is_at a b → DrivesAll by Does was_at is_at a c (told c.lines.done result)
 unfolding Moves-then
 drive_ends {a = a} {b = b} {c = c} by says Does was_at is_at result sound r is_end p = (

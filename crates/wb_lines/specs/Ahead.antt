@@ -13,7 +13,7 @@ pub record Ahead : Type 0 where
   pub ended : Bool
 
 -- Some bytes were pulled: none after the end, which stays the end, and a source that failed has no end.
-pub record Pulls (old new : Ahead) (left left' : Option (List ℕ)) (failed failed' : Bool) (given : List ℕ) : Type 0 where
+pub record ReadsAhead (old new : Ahead) (left left' : Option (List ℕ)) (failed failed' : Bool) (given : List ℕ) : Type 0 where
   pub consumes : Consumes left left' given
   pub none_after_end : old.ended ≡ true → given ≡ []
   pub end_stays : old.ended ≡ true → new.ended ≡ true

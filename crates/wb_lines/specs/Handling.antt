@@ -15,15 +15,15 @@ pub data Step (S F : Type 0) : Type 0 where
   stops : List ℕ → F → Step S F
   ends : List ℕ → Step S F
 
-abbrev pub text_of : {S F : Type 0} → Step S F → List ℕ
-text_of (goes text next) = text
-text_of (stops text e) = text
-text_of (ends text) = text
+abbrev pub step_text : {S F : Type 0} → Step S F → List ℕ
+step_text (goes text next) = text
+step_text (stops text e) = text
+step_text (ends text) = text
 
 -- What the code did for a step, if it is at some states afterwards: all of the step; or memory ran out, and it printed a front of the text.
 abbrev pub Does : {S F U : Type 0} → (S → Type 0) → List ℕ → Result U (Stop F) → Step S F → Type 0
 Does is_at printed (Ok u) (goes text next) = (printed ≡ text) × is_at next
 Does is_at printed (Err (Fault f)) (stops text e) = (printed ≡ text) × (f ≡ e)
 Does is_at printed (Err Endless) (ends text) = printed ≡ text
-Does is_at printed (Err Memory) step = BeginsWith (text_of step) printed
+Does is_at printed (Err Memory) step = BeginsWith (step_text step) printed
 Does is_at printed answer step = ⊥

@@ -10,11 +10,11 @@ use Rattle.wb_lines.specs.declared.lines.First.{First}
 use Rattle.wb_lines.specs.declared.lines.First.TheVariants as firsts
 use Rattle.wb_lines.specs.declared.lines.Seen.{Seen}
 use Rattle.wb_lines.specs.declared.lines.Seen.TheVariants as seens
-use Rattle.wb_lines.specs.Ahead.{Ahead, Pulls, IsLine, NoLineFeed}
-use Rattle.wb_lines.specs.Output.{Sends}
+use Rattle.wb_lines.specs.Ahead.{Ahead, ReadsAhead, IsLine, NoLineFeed}
+use Rattle.wb_lines.specs.Output.{SendsOut}
 use Rattle.wb_lines.specs.Input.{InputLine, input_lines, standing, MayFollow, most_bytes}
 use Rattle.wb_lines.specs.Handling.{too_long}
-use Rattle.wb_lines.specs.Items.{finished, unreadable, endless, Items, over, group, Grouping, Begun, begin, closed, items_from}
+use Rattle.wb_lines.specs.Items.{finished, unreadable, endless, Items, over, group, Grouping, Begun, begin, closed_group, items_from}
 
 -- The lines of a driver: `done` of them were taken, of at most `most`. `line` was read last, and `seen` was found behind those that were taken.
 pub record LinesValue (S : Type 0) : Type 0 where
@@ -35,13 +35,13 @@ pub record IsRead (line : InputLine) (reader : Ahead) : Type 0 where
   pub last : line.ended ≡ false → (line.bytes ≢ []) × (reader.bytes ≡ []) × (reader.ended ≡ true)
 
 -- What a driver knows of what it found, with what `says` tells of a line.
-abbrev pub IsFound : {S : Type 0} → (InputLine → S → Type 0) → ℕ → ℕ → Ahead → InputLine → Seen S → Type 0
-IsFound says done most reader line (seens.Line said) = (done < most) × IsRead line reader × says line said
-IsFound says done most reader line seens.TooLong = (done < most) × StartsLong line.bytes
-IsFound says done most reader line seen = done ≤ most
+abbrev pub KnowsFound : {S : Type 0} → (InputLine → S → Type 0) → ℕ → ℕ → Ahead → InputLine → Seen S → Type 0
+KnowsFound says done most reader line (seens.Line said) = (done < most) × IsRead line reader × says line said
+KnowsFound says done most reader line seens.TooLong = (done < most) × StartsLong line.bytes
+KnowsFound says done most reader line seen = done ≤ most
 
-abbrev pub IsSound : {S : Type 0} → (InputLine → S → Type 0) → LinesValue S → Type 0
-IsSound says v = IsFound says v.done v.most v.reader v.line v.seen
+abbrev pub KnowsLines : {S : Type 0} → (InputLine → S → Type 0) → LinesValue S → Type 0
+KnowsLines says v = KnowsFound says v.done v.most v.reader v.line v.seen
 
 abbrev pub is_broken : {S : Type 0} → Seen S → Bool
 is_broken seens.Unwritten = true
@@ -59,7 +59,7 @@ held seen line = []
 abbrev pub unread : {S : Type 0} → LinesValue S → List ℕ
 unread v = held v.seen v.line ++ v.reader.bytes
 
--- Whether these bytes may still come, and reading fail behind them if `cut`. Nothing comes after the end or a failure.
+-- These bytes may still come; if `cut`, reading fails behind them. Nothing comes after the end or a failure.
 abbrev pub MayComeTo : {S : Type 0} → Seen S → Bool → List ℕ → Bool → Type 0
 MayComeTo seens.Failed ended more cut = (more ≡ []) × (cut ≡ true)
 MayComeTo seen ended more cut = MayFollow ended more cut
@@ -67,11 +67,11 @@ MayComeTo seen ended more cut = MayFollow ended more cut
 abbrev pub MayCome : {S : Type 0} → LinesValue S → List ℕ → Bool → Type 0
 MayCome v more cut = MayComeTo v.seen v.reader.ended more cut
 
--- The items that follow if these bytes still come; the first is the group that is begun, if there is one. After a failed write or allocation there are none.
+-- If these bytes still come, these items follow. If a group is begun, it is the first of them. After a failed write or allocation none follow.
 abbrev pub RestBy : {S : Type 0} → Grouping → LinesValue S → Option Begun → List ℕ → Bool → Items → Seen S → Type 0
-RestBy by v g more cut is seens.End = is ≡ closed g (over (finished v.done))
-RestBy by v g more cut is seens.Failed = is ≡ closed g (over unreadable)
-RestBy by v g more cut is seens.TooMany = is ≡ closed g (over endless)
+RestBy by v g more cut is seens.End = is ≡ closed_group g (over (finished v.done))
+RestBy by v g more cut is seens.Failed = is ≡ closed_group g (over unreadable)
+RestBy by v g more cut is seens.TooMany = is ≡ closed_group g (over endless)
 RestBy by v g more cut is seens.Unwritten = ⊥
 RestBy by v g more cut is seens.Memory = ⊥
 RestBy by v g more cut is seen = is ≡ items_from by v.most cut v.done g (input_lines (unread v ++ more))
@@ -95,22 +95,22 @@ abbrev pub moment : {S : Type 0} → LinesValue S → List ℕ → Option (List 
 moment lines output left failed taken stuck = record { lines = lines; output = output; left = left; failed = failed; taken = taken; stuck = stuck }
 
 -- the moment of a driver with this source and this sink
-abbrev pub moment_of : {S R W : Type 0} → SourceOf R → SinkOf W → LinesValue S → List ℕ → R → W → Moment S
-moment_of R W lines output source sink = moment lines output (R.left source) (R.has_failed source) (W.taken sink) (W.has_failed sink)
+abbrev pub driver_moment : {S R W : Type 0} → SourceOf R → SinkOf W → LinesValue S → List ℕ → R → W → Moment S
+driver_moment R W lines output source sink = moment lines output (R.left source) (R.has_failed source) (W.taken sink) (W.has_failed sink)
 
 -- Each failure that was found did happen.
-pub record IsTrue {S : Type 0} (m : Moment S) : Type 0 where
+pub record FailuresHappened {S : Type 0} (m : Moment S) : Type 0 where
   pub failed : m.lines.seen ≡ seens.Failed → m.failed ≡ true
   pub stuck : m.lines.seen ≡ seens.Unwritten → m.stuck ≡ true
 
 -- The driver pulled `given` and printed `written`.
 pub record Moves {S : Type 0} (old new : Moment S) (written : List ℕ) : Type 0 where
   pub given : List ℕ
-  pub pulls : Pulls old.lines.reader new.lines.reader old.left new.left old.failed new.failed given
-  pub sends : Sends old.taken old.output new.taken new.output written
+  pub pulls : ReadsAhead old.lines.reader new.lines.reader old.left new.left old.failed new.failed given
+  pub sends : SendsOut old.taken old.output new.taken new.output written
   pub most : new.lines.most ≡ old.lines.most
   pub done : old.lines.done ≤ new.lines.done
-  pub true_still : IsTrue old → IsTrue new
+  pub true_still : FailuresHappened old → FailuresHappened new
   pub may : (more : List ℕ) (cut : Bool) → MayCome new.lines more cut → MayCome old.lines (given ++ more) cut
 
 -- ---- lines that join a group
@@ -155,8 +155,8 @@ abbrev pub with_seen : {S : Type 0} → LinesValue S → Seen S → LinesValue S
 with_seen v seen = record { done = v.done; most = v.most; reader = v.reader; line = v.line; seen = seen }
 
 -- one line more was taken
-abbrev pub with_one : {S : Type 0} → LinesValue S → LinesValue S
-with_one v = record { done = v.done + 1; most = v.most; reader = v.reader; line = v.line; seen = seens.Nothing }
+abbrev pub with_one_taken : {S : Type 0} → LinesValue S → LinesValue S
+with_one_taken v = record { done = v.done + 1; most = v.most; reader = v.reader; line = v.line; seen = seens.Nothing }
 
 -- a line that was read, or memory ran out
 abbrev pub IsLineOrMemory : {S : Type 0} → (InputLine → S → Type 0) → InputLine → Seen S → Type 0
@@ -169,9 +169,9 @@ IsLineSeen (seens.Line said) = Unit {0}
 IsLineSeen seen = ⊥
 
 -- The line that was looked at is taken, if there is one.
-abbrev pub TakesLine : {S : Type 0} → (InputLine → S → Type 0) → LinesValue S → LinesValue S → Option S → Type 0
-TakesLine says old new (Some said) = (old.seen ≡ seens.Line said) × (new ≡ with_one old) × (old.done < old.most) × IsRead old.line old.reader × says old.line said
-TakesLine says old new None = (IsLineSeen old.seen → ⊥) × (new ≡ old)
+abbrev pub TakesSeenLine : {S : Type 0} → (InputLine → S → Type 0) → LinesValue S → LinesValue S → Option S → Type 0
+TakesSeenLine says old new (Some said) = (old.seen ≡ seens.Line said) × (new ≡ with_one_taken old) × (old.done < old.most) × IsRead old.line old.reader × says old.line said
+TakesSeenLine says old new None = (IsLineSeen old.seen → ⊥) × (new ≡ old)
 
 -- whether what was found joins the group of this line
 abbrev pub IsJoining : {S : Type 0} → Grouping → InputLine → Seen S → Bool → Type 0
@@ -196,14 +196,14 @@ EndsBy seen result = ⊥
 
 -- A line that was found is taken. Else the driver ends.
 abbrev pub TakesSeen : {S F : Type 0} → (InputLine → S → Type 0) → LinesValue S → LinesValue S → Result (Option (First S)) (DriveFault F) → Type 0
-TakesSeen says old new (Ok (Some (firsts.Line said))) = TakesLine says old new (Some said)
-TakesSeen says old new (Ok (Some firsts.TooLong)) = (old.seen ≡ seens.TooLong) × (new ≡ with_one old) × (old.done < old.most) × StartsLong old.line.bytes
+TakesSeen says old new (Ok (Some (firsts.Line said))) = TakesSeenLine says old new (Some said)
+TakesSeen says old new (Ok (Some firsts.TooLong)) = (old.seen ≡ seens.TooLong) × (new ≡ with_one_taken old) × (old.done < old.most) × StartsLong old.line.bytes
 TakesSeen says old new result = (new ≡ old) × EndsBy old.seen result
 
 -- what is known of the first of a group
-abbrev pub IsFirst : {S : Type 0} → (InputLine → S → Type 0) → First S → InputLine → Type 0
-IsFirst says (firsts.Line said) line = says line said
-IsFirst says firsts.TooLong line = StartsLong line.bytes
+abbrev pub IsFirstLine : {S : Type 0} → (InputLine → S → Type 0) → First S → InputLine → Type 0
+IsFirstLine says (firsts.Line said) line = says line said
+IsFirstLine says firsts.TooLong line = StartsLong line.bytes
 
 -- The items from this first line on: the group that it begins, or a line that is too long, of which the rest is still to be read.
 abbrev pub RestOf : {S : Type 0} → Grouping → First S → ℕ → LinesValue S → List ℕ → Bool → Items → Type 0
@@ -215,7 +215,7 @@ pub record TakesFirst {S : Type 0} (says : InputLine → S → Type 0) (by : Gro
   pub taken : new.seen ≡ seens.Nothing
   pub count : new.done ≡ old.done + 1
   pub few : old.done < new.most
-  pub is_first : IsFirst says first new.line
+  pub is_first : IsFirstLine says first new.line
   pub rest : (more : List ℕ) (cut : Bool) (is : Items) → MayCome new more cut → RestOf by first old.done new more cut is → Rest by old None (given ++ more) cut is
 
 -- The next line is taken, or the driver ends.

@@ -7,17 +7,17 @@ use Rattle.wb_lines.specs.declared.lines.First.TheVariants as firsts
 use Rattle.wb_lines.specs.declared.handler.Stop.{Stop}
 use Rattle.wb_lines.specs.declared.handler.Stop.TheVariants as handler_stops
 use Rattle.wb_lines.specs.Input.{InputLine, BeginsWith}
-use Rattle.wb_lines.specs.Handling.{whole, too_long, Step, goes, stops, ends, text_of}
+use Rattle.wb_lines.specs.Handling.{whole, too_long, Step, goes, stops, ends, step_text}
 use Rattle.wb_lines.specs.Items.{Items, Grouping}
 use Rattle.wb_lines.specs.Driving.{Outcome, writes, before, stop, is_stop, IsStopped, Meets}
 use Rattle.wb_lines.specs.Groups.{Steps, IsOutcomeOf}
 use Rattle.wb_lines.specs.Moments.{LinesValue, MayCome, Rest, HasJoined, Joins, IsGroupEnd, is_broken, PassesLine, Moment, Moves}
 
 -- why a driver stops when its handler does, at the line of this number
-abbrev pub fault_of : {F : Type 0} → ℕ → Stop F → DriveFault F
-fault_of number (handler_stops.Fault f) = faults.Line number f
-fault_of number handler_stops.Endless = faults.Endless
-fault_of number handler_stops.Memory = faults.Memory
+abbrev pub driver_fault : {F : Type 0} → ℕ → Stop F → DriveFault F
+driver_fault number (handler_stops.Fault f) = faults.Line number f
+driver_fault number handler_stops.Endless = faults.Endless
+driver_fault number handler_stops.Memory = faults.Memory
 
 -- ---- a handler
 
@@ -26,7 +26,7 @@ abbrev pub DoesOne : {S F U : Type 0} → (S → Type 0) → List ℕ → (Step 
 DoesOne is_at printed May (Ok u) = (next : _) × is_at next × May (goes printed next)
 DoesOne is_at printed May (Err (handler_stops.Fault f)) = May (stops printed f)
 DoesOne is_at printed May (Err handler_stops.Endless) = May (ends printed)
-DoesOne is_at printed May (Err handler_stops.Memory) = (step : _) × May step × BeginsWith (text_of step) printed
+DoesOne is_at printed May (Err handler_stops.Memory) = (step : _) × May step × BeginsWith (step_text step) printed
 
 -- It took all of a group, or printed nothing if no more lines can be read.
 abbrev pub TakesAll : {S F T : Type 0} → Bool → Grouping → (S → Type 0) → List ℕ → (List InputLine → Step S F → Type 0) → InputLine → List InputLine → LinesValue T → Type 0

@@ -20,13 +20,13 @@ abbrev pub is_digit : ℕ → Bool
 is_digit b = nat_le 48 b && nat_le b 57
 
 -- the number whose first digits stand for a number that is known, if it is in range
-abbrev pub number_after : ℕ → ℕ → ℕ → List ℕ → Option ℕ
-number_after low high begun [] = if nat_le low begun && nat_le begun high then Some begun else None
-number_after low high begun (b ∷ bs) = if is_digit b then number_after low high (10 * begun + (b - 48)) bs else None
+abbrev pub number_from : ℕ → ℕ → ℕ → List ℕ → Option ℕ
+number_from low high begun [] = if nat_le low begun && nat_le begun high then Some begun else None
+number_from low high begun (b ∷ bs) = if is_digit b then number_from low high (10 * begun + (b - 48)) bs else None
 
 -- the number that a word of decimal digits stands for, if it is in range
 abbrev pub number_of : ℕ → ℕ → List ℕ → Option ℕ
-number_of low high word = if nat_eq (length word) 0 then None else number_after low high 0 word
+number_of low high word = if nat_eq (length word) 0 then None else number_from low high 0 word
 
 -- an even number of hexadecimal digits, of either case
 abbrev pub is_hex : List ℕ → Bool

@@ -2,12 +2,12 @@
 ghost use Rattle.std.specs.Prelude.{◌≡◌, ◌≢◌, ◌≤◌, List, ℕ, true, Err, IfOk};
 ghost use Rattle.std.specs.Io.KnownBytes.{Appends};
 ghost use Rattle.wb_lines.specs.declared.lines.Seen.TheVariants as seens;
-ghost use Rattle.wb_lines.specs.Output.{Sends};
+ghost use Rattle.wb_lines.specs.Output.{SendsOut};
 ghost use Rattle.wb_lines.specs.Items.{alone};
 ghost use Rattle.wb_lines.specs.Groups.{only_step};
 ghost use Rattle.wb_lines.specs.Driving.{rules_of, outcome, Gave, Meets, is_stop};
 ghost use Rattle.wb_lines.specs.Progress.{reached};
-ghost use Rattle.wb_lines.specs.Steps.{fault_of, Handles, DrivesAll, Closes};
+ghost use Rattle.wb_lines.specs.Steps.{driver_fault, Handles, DrivesAll, Closes};
 
 use crate::fault::DriveFault;
 use crate::handler::{Handler, Stop};
@@ -20,7 +20,7 @@ use wb_names::{Sink, Source};
 
 /// Why the driver stops when its handler does, at the line of this number.
 pub fn fault_of<F>(number: u64, stop: Stop<F>) -> DriveFault<F>
-    ensures fault { result ≡ fault_of number stop }
+    ensures fault { result ≡ driver_fault number stop }
     ensures other { (result ≢ DriveFault.Read) × (result ≢ DriveFault.Write) }
 {
     match stop {
@@ -121,7 +121,7 @@ pub fn close<F: Drop, W: Sink>(
     output: &mut Output,
     sink: &mut W,
 ) -> Result<u64, DriveFault<F>>
-    ensures text { (written : List ℕ) × Sends (W.taken sink.old) output.old
+    ensures text { (written : List ℕ) × SendsOut (W.taken sink.old) output.old
         (W.taken sink.new) output.new written × Closes ending written output.new result }
     ensures read { result ≡ Err DriveFault.Read → ending ≡ Err DriveFault.Read }
     ensures failed { (ending ≡ Err DriveFault.Write → W.has_failed sink.old ≡ true) →

@@ -1,8 +1,8 @@
 //! Reads a source line by line, in blocks.
 ghost use Rattle.std.specs.Prelude.{◌≡◌, ◌≢◌, ◌≤◌, ◌<◌, ◌+◌, ◌↔◌, [], ◌∷◌, ◌++◌, List, ℕ, length, take, slice_index, true, false, IfOk, OnOk, IsTrue, Ok};
-ghost use Rattle.wb_lines.specs.Output.{Sends};
+ghost use Rattle.wb_lines.specs.Output.{SendsOut};
 ghost use Rattle.wb_lines.specs.Input.{most_bytes};
-ghost use Rattle.wb_lines.specs.Ahead.{Pulls, GivesByte, NoLineFeed, TakesRun, PassesRun, MayGiveLine, PassesOver};
+ghost use Rattle.wb_lines.specs.Ahead.{ReadsAhead, GivesByte, NoLineFeed, TakesRun, PassesRun, MayGiveLine, PassesOver};
 
 use crate::output::Output;
 use memchr::memchr;
@@ -116,7 +116,7 @@ impl LineReader {
     fn pull_byte<R: Source>(&mut self, source: &mut R) -> Pulled
         requires { self.old.bytes ≡ [] }
         ensures asked { result ≢ Pulled.Unwritten }
-        ensures read { (given : List ℕ) × Pulls self.old self.new (R.left source.old)
+        ensures read { (given : List ℕ) × ReadsAhead self.old self.new (R.left source.old)
             (R.left source.new) (R.has_failed source.old) (R.has_failed source.new) given ×
             GivesByte self.old self.new given (R.has_failed source.new) result }
     {
@@ -144,10 +144,10 @@ impl LineReader {
         output: &mut Output,
         sink: &mut W,
     ) -> Pulled
-        ensures read { (given : List ℕ) × Pulls self.old self.new (R.left source.old)
+        ensures read { (given : List ℕ) × ReadsAhead self.old self.new (R.left source.old)
             (R.left source.new) (R.has_failed source.old) (R.has_failed source.new) given ×
             GivesByte self.old self.new given (R.has_failed source.new) result }
-        ensures sends { Sends (W.taken sink.old) output.old (W.taken sink.new) output.new [] }
+        ensures sends { SendsOut (W.taken sink.old) output.old (W.taken sink.new) output.new [] }
         ensures unwritten { result ≡ Pulled.Unwritten →
             (W.has_failed sink.new ≡ true) × (output.old ≢ []) }
         ensures nothing { output.old ≡ [] → output.new ≡ [] }
@@ -188,10 +188,10 @@ impl LineReader {
         output: &mut Output,
         sink: &mut W,
     ) -> Result<Found, AllocError>
-        ensures read { (given : List ℕ) × Pulls self.old self.new (R.left source.old)
+        ensures read { (given : List ℕ) × ReadsAhead self.old self.new (R.left source.old)
             (R.left source.new) (R.has_failed source.old) (R.has_failed source.new) given ×
             MayGiveLine self.old self.new given (R.has_failed source.new) line.new.items result }
-        ensures sends { Sends (W.taken sink.old) output.old (W.taken sink.new) output.new [] }
+        ensures sends { SendsOut (W.taken sink.old) output.old (W.taken sink.new) output.new [] }
         ensures unwritten { result ≡ Ok Found.Unwritten →
             (W.has_failed sink.new ≡ true) × (output.old ≢ []) }
         ensures nothing { output.old ≡ [] → output.new ≡ [] }
@@ -246,10 +246,10 @@ impl LineReader {
         sink: &mut W,
     ) -> Found
         ensures read { (given : List ℕ) ×
-            (rest : List ℕ) × Pulls self.old self.new (R.left source.old)
+            (rest : List ℕ) × ReadsAhead self.old self.new (R.left source.old)
             (R.left source.new) (R.has_failed source.old) (R.has_failed source.new) given ×
             PassesOver self.old self.new given (R.has_failed source.new) rest result }
-        ensures sends { Sends (W.taken sink.old) output.old (W.taken sink.new) output.new [] }
+        ensures sends { SendsOut (W.taken sink.old) output.old (W.taken sink.new) output.new [] }
         ensures unwritten { result ≡ Found.Unwritten → W.has_failed sink.new ≡ true }
         ensures failed { result ≡ Found.Failed → R.has_failed source.new ≡ true }
     {

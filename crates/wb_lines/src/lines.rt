@@ -1,7 +1,7 @@
 //! The lines of a source, of which the next is looked at before it is taken.
 ghost use Rattle.std.specs.Prelude.{◌≡◌, ◌≢◌, ◌<◌, ◌≤◌, [], List, ℕ, Err, IfOk, IfSome};
 ghost use Rattle.wb_lines.specs.declared.lines.Seen.TheVariants as seens;
-ghost use Rattle.wb_lines.specs.Moments.{moment_of, is_broken, with_seen, Reads, IsSound, IsLineOrMemory, TakesLine, TakesSeen, IsJoining, Moves, PassesLine, at_start, found_over};
+ghost use Rattle.wb_lines.specs.Moments.{driver_moment, is_broken, with_seen, Reads, KnowsLines, IsLineOrMemory, TakesSeenLine, TakesSeen, IsJoining, Moves, PassesLine, at_start, found_over};
 
 use crate::fault::DriveFault;
 use crate::line_reader::{Found, LineReader, Pulled};
@@ -69,7 +69,7 @@ pub struct Lines<S: Saying> {
 
 impl<S: Saying> Model for Lines<S> {
     ghost use Rattle.std.specs.Prelude.{◌≤◌};
-    ghost use Rattle.wb_lines.specs.Moments.{LinesValue, IsSound};
+    ghost use Rattle.wb_lines.specs.Moments.{LinesValue, KnowsLines};
 
     ghost Value = { LinesValue S };
 
@@ -82,7 +82,7 @@ impl<S: Saying> Model for Lines<S> {
     } };
 
     ghost invariant = { λ l. (l.most ≤ S.at_most) ×
-        IsSound S.says (record {
+        KnowsLines S.says (record {
           done = l.done;
           most = l.most;
           reader = l.reader;
@@ -161,9 +161,9 @@ impl<S: Saying> Lines<S> {
     ) -> Seen<S>
         requires next { (self.old.seen ≡ seens.Nothing) × (self.old.done < self.old.most) }
         ensures reads { Reads S.by
-            (moment_of R.Source W.Sink self.old output.old source.old sink.old) (moment_of R.Source
+            (driver_moment R.Source W.Sink self.old output.old source.old sink.old) (driver_moment R.Source
             W.Sink (with_seen self.new result) output.new source.new sink.new) [] [] }
-        ensures sound { IsSound S.says (with_seen self.new result) }
+        ensures sound { KnowsLines S.says (with_seen self.new result) }
         ensures found { result ≢ seens.Nothing }
         ensures count { (self.new.done ≡ self.old.done) × (self.new.most ≡ self.old.most) }
     {
@@ -187,9 +187,9 @@ impl<S: Saying> Lines<S> {
     ) -> Seen<S>
         requires last { (self.old.seen ≡ seens.Nothing) × (self.old.done ≡ self.old.most) }
         ensures reads { Reads S.by
-            (moment_of R.Source W.Sink self.old output.old source.old sink.old) (moment_of R.Source
+            (driver_moment R.Source W.Sink self.old output.old source.old sink.old) (driver_moment R.Source
             W.Sink (with_seen self.new result) output.new source.new sink.new) [] [] }
-        ensures sound { IsSound S.says (with_seen self.new result) }
+        ensures sound { KnowsLines S.says (with_seen self.new result) }
         ensures found { result ≢ seens.Nothing }
         ensures count { (self.new.done ≡ self.old.done) × (self.new.most ≡ self.old.most) }
     {
@@ -211,9 +211,9 @@ impl<S: Saying> Lines<S> {
     ) -> Seen<S>
         requires next { self.old.seen ≡ seens.Nothing }
         ensures reads { Reads S.by
-            (moment_of R.Source W.Sink self.old output.old source.old sink.old) (moment_of R.Source
+            (driver_moment R.Source W.Sink self.old output.old source.old sink.old) (driver_moment R.Source
             W.Sink (with_seen self.new result) output.new source.new sink.new) [] [] }
-        ensures sound { IsSound S.says (with_seen self.new result) }
+        ensures sound { KnowsLines S.says (with_seen self.new result) }
         ensures found { result ≢ seens.Nothing }
         ensures count { (self.new.done ≡ self.old.done) × (self.new.most ≡ self.old.most) }
     {
@@ -233,11 +233,11 @@ impl<S: Saying> Lines<S> {
         sink: &mut W,
     )
         ensures reads { Reads S.by
-            (moment_of R.Source W.Sink self.old output.old source.old sink.old)
-            (moment_of R.Source W.Sink self.new output.new source.new sink.new) [] [] }
+            (driver_moment R.Source W.Sink self.old output.old source.old sink.old)
+            (driver_moment R.Source W.Sink self.new output.new source.new sink.new) [] [] }
         ensures looked { self.new.seen ≢ seens.Nothing }
         ensures count { (self.new.done ≡ self.old.done) × (self.new.most ≡ self.old.most) }
-        ensures sound { IsSound S.says self.old }
+        ensures sound { KnowsLines S.says self.old }
     {
         if !matches!(&self.seen, Seen::Nothing) {
             return;
@@ -248,7 +248,7 @@ impl<S: Saying> Lines<S> {
 
     /// Takes the line that was looked at, if it is one that is not too long. Answers what it says.
     pub fn take_line(&mut self) -> Option<S>
-        ensures taken { TakesLine S.says self.old self.new result }
+        ensures taken { TakesSeenLine S.says self.old self.new result }
         ensures few { IfSome result (λ said. self.new.done ≤ S.at_most) }
     {
         match replace(&mut self.seen, Seen::Nothing) {
@@ -307,8 +307,8 @@ impl<S: Saying> Lines<S> {
     )
         requires taken { (self.old.seen ≡ seens.Nothing) × (self.old.done ≤ self.old.most) }
         ensures passes { (moves : Moves
-            (moment_of R.Source W.Sink self.old output.old source.old sink.old)
-            (moment_of R.Source W.Sink self.new output.new source.new sink.new) []) ×
+            (driver_moment R.Source W.Sink self.old output.old source.old sink.old)
+            (driver_moment R.Source W.Sink self.new output.new source.new sink.new) []) ×
             PassesLine S.by self.old self.new moves.given }
         ensures count { (self.new.done ≡ self.old.done) × (self.new.most ≡ self.old.most) }
     {

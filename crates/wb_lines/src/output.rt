@@ -1,6 +1,6 @@
 //! Text that waits to be written.
 ghost use Rattle.std.specs.Prelude.{◌≡◌, ◌<◌, ◌↔◌, [], ◌++◌, true, length, IsTrue, IsOk, OnOk, OnErr};
-ghost use Rattle.wb_lines.specs.Output.{Sends, most_waiting};
+ghost use Rattle.wb_lines.specs.Output.{SendsOut, most_waiting};
 
 use std::alloc::{AllocError, Global};
 use std::marker::Model;
@@ -64,7 +64,7 @@ impl Output {
 
     /// Writes what waits.
     pub fn flush<W: Sink>(&mut self, sink: &mut W) -> Result<(), Unwritten>
-        ensures sends { Sends (W.taken sink.old) self.old (W.taken sink.new) self.new [] }
+        ensures sends { SendsOut (W.taken sink.old) self.old (W.taken sink.new) self.new [] }
         ensures ok { OnOk result (self.new ≡ []) }
         ensures nothing { self.old ≡ [] → IsOk result }
         ensures failed { OnErr result (W.has_failed sink.new ≡ true) }

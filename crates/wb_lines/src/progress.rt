@@ -1,7 +1,7 @@
 //! How far a driver has come.
 ghost use Rattle.std.specs.Prelude.{◌≡◌, ◌≤◌, ◌<◌, [], List, ℕ, Err, IfSome};
 ghost use Rattle.wb_lines.specs.declared.lines.Seen.TheVariants as seens;
-ghost use Rattle.wb_lines.specs.Moments.{IsSound, TakesNext, TakesJoined};
+ghost use Rattle.wb_lines.specs.Moments.{KnowsLines, TakesNext, TakesJoined};
 ghost use Rattle.wb_lines.specs.Progress.{reached};
 
 use crate::fault::DriveFault;
@@ -27,7 +27,7 @@ impl<S: Saying> Progress<S> {
         source: &mut R,
         sink: &mut W,
     ) -> Result<Option<First<S>>, DriveFault<F>>
-        ensures sound { IsSound S.says self.old.lines }
+        ensures sound { KnowsLines S.says self.old.lines }
         ensures next { TakesNext S.says S.by
             (reached R.Source W.Sink self.old source.old sink.old)
             (reached R.Source W.Sink self.new source.new sink.new) result }

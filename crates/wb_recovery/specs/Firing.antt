@@ -6,10 +6,10 @@ use Rattle.wb_recovery.specs.Events.{word_for}
 use Rattle.wb_recovery.specs.declared.tuning.Tuning.{Tuning}
 use Rattle.wb_recovery.specs.declared.timers.Timers.{Timers}
 
--- after its request timer fired; names whose requests fire take these words in their order
+-- Its request timer fired. If the requests of several names fire at once, each takes the word at its own place.
 abbrev pub with_ask_fired : Tuning → ℕ → List ℕ → List NameValue → (NameValue → Timers) → NameValue → Timers
 with_ask_fired t now words firing timers n = record (timers n) { ask = fired_ask t now (word_for words firing n) (timers n).ask }
 
--- after its answer timer fired
+-- Its answer timer fired.
 abbrev pub with_answer_fired : ℕ → (NameValue → Timers) → NameValue → Timers
 with_answer_fired now timers n = record (timers n) { answer = fired_answer now (timers n).answer; quiet = quiet_after now (timers n).quiet (timers n).answer }

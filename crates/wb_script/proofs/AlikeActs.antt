@@ -25,7 +25,7 @@ use Rattle.wb_member.specs.declared.calls.Call.TheVariants.{Tick, Hear as HearCa
 use Rattle.wb_member.specs.declared.calls.Found.TheVariants.{Nothing, Missing, MayAsk}
 use Rattle.wb_member.specs.declared.questions.Query.{Query}
 use Rattle.wb_member.proofs.KeptBoards.{calls_keep_boards}
-use Rattle.wb_commands.specs.Acts.{Act, does, fails, unless, tells, asked, called, act}
+use Rattle.wb_commands.specs.Acts.{Act, does, fails, unless, tells, question_act, called, act}
 use Rattle.wb_commands.specs.Answers.{answer_text}
 use Rattle.wb_commands.specs.SentLines.{call_text, done_text}
 use Rattle.wb_commands.specs.declared.command.Command.{Command}
@@ -54,8 +54,8 @@ module _ (host : Opened) (drawops : List DrawopValue) (a : AreAlike host.is.held
 
   -- ---- questions
 
-  asks : (query : Query) → DoAlike host drawops (asked query host) (asked query other)
-  asks query = subst (λ (said : Told). DoAlike host drawops (asked query host) (tells other (answer_text said)))
+  asks : (query : Query) → DoAlike host drawops (question_act query host) (question_act query other)
+  asks query = subst (λ (said : Told). DoAlike host drawops (question_act query host) (tells other (answer_text said)))
       (same_answer host.is.held drawops a host.is.number (marks_heard host.is.number host.is.calls) (pages_heard host.is.number host.is.calls) query)
       (told (answer_text (answer_to query host))) where
         told : (text : Option (List ℕ)) → DoAlike host drawops (tells host text) (tells other text)

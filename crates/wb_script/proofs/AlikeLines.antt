@@ -9,10 +9,10 @@ use Rattle.wb_script.specs.declared.running.Summary.{Summary}
 use Rattle.wb_commands.specs.declared.command.Command.{Command}
 use Rattle.wb_member.specs.Board.{Held}
 use Rattle.wb_member.specs.Opened.{Opened, board_of}
-use Rattle.wb_script.specs.Hosts.{opened, taken, batch_text}
+use Rattle.wb_script.specs.Hosts.{script_host, taken, batch_text}
 use Rattle.wb_commands.specs.Acts.{Act, does, fails, act}
 use Rattle.wb_script.specs.Laws.{NoneClash, HasCells}
-use Rattle.wb_script.specs.Script.{State, after_batch, Closing, Opens, Acts, Faulty, Part, Arrival, Nothing, End, Step, goes, refused, step_by, closing_step, part_step, prints, answer, finish}
+use Rattle.wb_script.specs.Script.{RunState, after_batch, Closing, Opens, Acts, Faulty, Part, Arrival, Nothing, End, RunStep, moves_on, refused, step_by, closing_step, part_step, prints, run_answer, finish}
 use Rattle.wb_script.specs.Shows.{arrived_by, cells_by}
 use Rattle.wb_script.proofs.AlikeActs.{DoAlike, act_alike}
 use Rattle.wb_script.proofs.AlikeBatches.{HostsAlike, hosts_alike, batch_taken, same_text}
@@ -31,13 +31,13 @@ AreCells cells None later = later ≡ cells
 AreCells cells (Some host) later = Unit {0}
 
 -- the same but for the order of what is held, and for the number of workers
-pub record StatesAlike (cells : ℕ) (all : List DrawopValue) (s t : State) : Type 0 where
+pub record StatesAlike (cells : ℕ) (all : List DrawopValue) (s t : RunState) : Type 0 where
   pub hosts : MayBeAlike cells all s.host t.host
   pub waiting : s.waiting ≡ t.waiting
   pub within : Among s.waiting all
 
-abbrev pub StepsAlike : ℕ → List DrawopValue → ℕ → Step → Step → Type 0
-StepsAlike cells all later (goes s text) (goes t text') = StatesAlike cells all s t × AreCells cells s.host later × (text ≡ text')
+abbrev pub StepsAlike : ℕ → List DrawopValue → ℕ → RunStep → RunStep → Type 0
+StepsAlike cells all later (moves_on s text) (moves_on t text') = StatesAlike cells all s t × AreCells cells s.host later × (text ≡ text')
 StepsAlike cells all later (refused s text e) (refused t text' e') = StatesAlike cells all s t × (text ≡ text') × (e ≡ e')
 StepsAlike cells all later one other = ⊥
 
@@ -79,7 +79,7 @@ module _ (cells : ℕ) (all : List DrawopValue) (clash : NoneClash all) (room : 
   closes_alike : (later : ℕ) (k j : Option ℕ) (one other : Option Opened) (text text' : List ℕ) (c : Closing) → MayBeAlike cells all one other → AreCells cells one (cells_by (End c) later) → text ≡ text'
       → StepsAlike cells all later (closing_step (state k one []) text c) (closing_step (state j other []) text' c)
   closes_alike later k j None None text text' (Opens member cells' workers seed) h opens same =
-      (record { hosts = hosts_alike cells all (opened member cells' seed) (opened member cells' seed) [] refl nothing_held opens (none_among all); waiting = refl; within = none_among all }, tt, same)
+      (record { hosts = hosts_alike cells all (script_host member cells' seed) (script_host member cells' seed) [] refl nothing_held opens (none_among all); waiting = refl; within = none_among all }, tt, same)
   closes_alike later k j None None text text' (Acts line) h opens same = (record { hosts = tt; waiting = refl; within = none_among all }, same, refl)
   closes_alike later k j (Some one) (Some other) text text' (Acts line) h opens same = line_done later k j text text' line one other h same
   closes_alike later k j None None text text' (Faulty e) h opens same = (record { hosts = tt; waiting = refl; within = none_among all }, same, refl)
@@ -123,7 +123,7 @@ module _ (cells : ℕ) (all : List DrawopValue) (clash : NoneClash all) (room : 
   ends_alike k j (Some one) (Some other) waiting order order' (Err e) h here moved = ap (λ (text : List ℕ). prints text (Err e)) (texts_alike one other order order' h here moved)
   ends_alike k j (Some one) (Some other) waiting order order' (Ok n) h here moved =
       let ended : HostsAlike cells all (taken order one) (taken order' other) = batch_ended one other order order' h here moved in
-      ap (λ (text : List ℕ). prints text (answer (after_batch (state k (Some one) waiting) order) (Ok n))) (texts_alike one other order order' h here moved)
+      ap (λ (text : List ℕ). prints text (run_answer (after_batch (state k (Some one) waiting) order) (Ok n))) (texts_alike one other order order' h here moved)
       ∙ ap (λ (held : ℕ). let sum : Summary = record { lines = n; held = held } in prints (batch_text (board_of other) order') (Ok sum)) (sym (length_permutation (taken order one).is.held (taken order' other).is.held ended.held.moved))
   ends_alike k j None (Some other) waiting order order' ending h here moved = absurd h
   ends_alike k j (Some one) None waiting order order' ending h here moved = absurd h

@@ -19,7 +19,7 @@ use Rattle.wb_commands.specs.declared.fault.LineFault.{LineFault}
 use Rattle.wb_commands.specs.declared.fault.LineFault.TheVariants as faults
 use Rattle.wb_commands.specs.declared.command.Command.{Command}
 use Rattle.wb_commands.specs.declared.command.Command.TheVariants.{Arrive, Skip, Board, Call, Question}
-use Rattle.wb_commands.specs.Parsing.{◌>>=◌, or_fault, number, one_of, two_of, four_of, page, spelled, datagram, board, arrived, heard, arrive, hear, handed_in, bytes_line, distance, tuning, tick, question, page_line, command, begins_comment, line_of_words, in_words, line_of}
+use Rattle.wb_commands.specs.Parsing.{◌>>=◌, or_fault, number, one_of, two_of, four_of, page, read_or_fault, datagram, board, arrived_line, heard_line, arrive, hear, handed_in, bytes_line, distance_set, tuning, tick, script_question, line_of_page, script_command, begins_comment, script_line_of_words, script_in_words, script_line_of}
 use Rattle.wb_member.specs.declared.calls.Call.TheVariants.{SetDelay, Tune, Tick, Look, Session}
 use Rattle.wb_script.specs.Script.{Arrival, part_of}
 use Rattle.wb_board.specs.Counts.{MAX_CELLS}
@@ -77,8 +77,8 @@ no_board ws =
     none_then (number 1 8 w.2) _ (λ workers.
     none_then (number 0 (2 ^ 64 - 1) w.3) (λ seed. Ok (Board member cells workers seed)) (λ seed. tt)))))
 
-no_distance : (ws : List (List ℕ)) → HandsInNone (distance ws)
-unfolding distance
+no_distance : (ws : List (List ℕ)) → HandsInNone (distance_set ws)
+unfolding distance_set
 no_distance ws =
     none_then (or_fault faults.Words (two_of ws)) _ (λ w.
     none_then (number 0 (2 ^ 32 - 1) w.0) _ (λ source.
@@ -99,17 +99,17 @@ no_tick ws =
     none_then (or_fault faults.Words (one_of ws)) _ (λ w.
     none_then (number 0 (2 ^ 48 - 1) w) (λ moment. Ok (Call (Tick moment))) (λ moment. tt))
 
-none_heard : (v : Datagram) → HandsInNone (heard v)
+none_heard : (v : Datagram) → HandsInNone (heard_line v)
 none_heard (datagrams.Draw e) = tt
 none_heard v = tt
 
-no_page : (word : List ℕ) (ws : List (List ℕ)) → HandsInNone (page_line word ws)
-unfolding page_line
+no_page : (word : List ℕ) (ws : List (List ℕ)) → HandsInNone (line_of_page word ws)
+unfolding line_of_page
 no_page word ws = at (bytes_eq word (codes "look")) (bytes_eq word (codes "session")) where
-  at : (a b : Bool) → HandsInNone (cond a (page ws >>= (λ p. Ok (Call (Look p)))) (cond b (page ws >>= (λ p. Ok (Call (Session p)))) (question word ws >>= (λ query. Ok (Question query)))))
+  at : (a b : Bool) → HandsInNone (cond a (page ws >>= (λ p. Ok (Call (Look p)))) (cond b (page ws >>= (λ p. Ok (Call (Session p)))) (script_question word ws >>= (λ query. Ok (Question query)))))
   at true b = none_then (page ws) (λ p. Ok (Call (Look p))) (λ p. tt)
   at false true = none_then (page ws) (λ p. Ok (Call (Session p))) (λ p. tt)
-  at false false = none_then (question word ws) (λ query. Ok (Question query)) (λ query. tt)
+  at false false = none_then (script_question word ws) (λ query. Ok (Question query)) (λ query. tt)
 
 -- a datagram is one word of digits
 abbrev HasDigits : List (List ℕ) → Type 0
@@ -118,7 +118,7 @@ HasDigits ws = (digits : List ℕ) × (bytes : List ℕ) × (ws ≡ digits ∷ [
 digits_of : (ws : List (List ℕ)) (v : Datagram) → datagram ws ≡ Ok v → HasDigits ws
 unfolding datagram
 digits_of (a ∷ []) v e = at (unhex a) refl e where
-  at : (r : Option (List ℕ)) → unhex a ≡ r → (or_fault (faults.Digits digit_faults.Hex) r >>= (λ bytes. spelled (reading bytes))) ≡ Ok v → HasDigits (a ∷ [])
+  at : (r : Option (List ℕ)) → unhex a ≡ r → (or_fault (faults.Digits digit_faults.Hex) r >>= (λ bytes. read_or_fault (reading bytes))) ≡ Ok v → HasDigits (a ∷ [])
   at None is f = absurd cc
   at (Some bytes) is f = (a, bytes, refl, is)
 digits_of ws v e = absurd cc
@@ -129,26 +129,26 @@ arrives_with ws then d e = at (datagram ws) refl e where
   at (Ok v) is f = digits_of ws v is
   at (Err fault) is f = absurd cc
 
-has_digits : (word : List ℕ) (ws : List (List ℕ)) (d : DrawopValue) → command word ws ≡ Ok (Arrive d) → HasDigits ws
-unfolding command
+has_digits : (word : List ℕ) (ws : List (List ℕ)) (d : DrawopValue) → script_command word ws ≡ Ok (Arrive d) → HasDigits ws
+unfolding script_command
 has_digits word ws d e =
     at (bytes_eq word (codes "board")) (bytes_eq word (codes "arrive")) (bytes_eq word (codes "hear")) (bytes_eq word (codes "datagram")) (bytes_eq word (codes "distance")) (bytes_eq word (codes "tuning")) (bytes_eq word (codes "tick")) e where
       none : (said : Result Command LineFault) → HandsInNone said → said ≡ Ok (Arrive d) → HasDigits ws
       none said is e = absurd (subst HandsInNone e is)
 
-      at : (a b c h g t i : Bool) → cond a (board ws) (cond b (arrive ws) (cond c (hear ws) (cond h (bytes_line ws) (cond g (distance ws) (cond t (tuning ws) (cond i (tick ws) (page_line word ws))))))) ≡ Ok (Arrive d) → HasDigits ws
+      at : (a b c h g t i : Bool) → cond a (board ws) (cond b (arrive ws) (cond c (hear ws) (cond h (bytes_line ws) (cond g (distance_set ws) (cond t (tuning ws) (cond i (tick ws) (line_of_page word ws))))))) ≡ Ok (Arrive d) → HasDigits ws
       at true b c h g t i e = none (board ws) (no_board ws) e
-      at false true c h g t i e = arrives_with ws arrived d e
-      at false false true h g t i e = none (hear ws) (none_then (datagram ws) heard none_heard) e
+      at false true c h g t i e = arrives_with ws arrived_line d e
+      at false false true h g t i e = none (hear ws) (none_then (datagram ws) heard_line none_heard) e
       at false false false true g t i e = arrives_with ws (λ v. Ok (handed_in v)) d e
-      at false false false false true t i e = none (distance ws) (no_distance ws) e
+      at false false false false true t i e = none (distance_set ws) (no_distance ws) e
       at false false false false false true i e = none (tuning ws) (no_tuning ws) e
       at false false false false false false true e = none (tick ws) (no_tick ws) e
-      at false false false false false false false e = none (page_line word ws) (no_page word ws) e
+      at false false false false false false false e = none (line_of_page word ws) (no_page word ws) e
 
-words_arrive : (word : List ℕ) (ws : List (List ℕ)) (d : DrawopValue) → line_of_words (word ∷ ws) ≡ Ok (Arrive d) → HasDigits ws
+words_arrive : (word : List ℕ) (ws : List (List ℕ)) (d : DrawopValue) → script_line_of_words (word ∷ ws) ≡ Ok (Arrive d) → HasDigits ws
 words_arrive word ws d e = at (begins_comment word) e where
-  at : (comment : Bool) → cond comment (Ok Skip) (command word ws) ≡ Ok (Arrive d) → HasDigits ws
+  at : (comment : Bool) → cond comment (Ok Skip) (script_command word ws) ≡ Ok (Arrive d) → HasDigits ws
   at true f = absurd cc
   at false f = has_digits word ws d f
 
@@ -158,7 +158,7 @@ more_words : (front : List (List ℕ)) (x : List ℕ) → front ++ x ∷ [] ≡ 
 more_words [] x e = cc
 more_words (a ∷ front) x e = cc
 
-no_arrival : (front : List (List ℕ)) (w : List ℕ) (d : DrawopValue) → line_of_words (front ++ (w ++ 13 ∷ []) ∷ []) ≡ Ok (Arrive d) → ⊥
+no_arrival : (front : List (List ℕ)) (w : List ℕ) (d : DrawopValue) → script_line_of_words (front ++ (w ++ 13 ∷ []) ∷ []) ≡ Ok (Arrive d) → ⊥
 no_arrival [] w d e = let p = words_arrive (w ++ 13 ∷ []) [] d e in let none = p.2 in absurd cc
 no_arrival (word ∷ []) w d e =
     let p = words_arrive word ((w ++ 13 ∷ []) ∷ []) d e in
@@ -176,24 +176,24 @@ said_arrival : (said : Result Command LineFault) (d : DrawopValue) → part_of s
 said_arrival (Ok (Arrive e)) d p = let same : e ≡ d = cc in ap (λ (x : DrawopValue). Ok (Arrive x)) same
 said_arrival said d p = absurd cc
 
-no_return : (xs : List ℕ) (d : DrawopValue) → part_of (line_of (xs ++ 13 ∷ [])) ≡ Arrival d → ⊥
-no_return xs d p = at (begins_datagram (xs ++ 13 ∷ [])) (said_arrival (line_of (xs ++ 13 ∷ [])) d p) where
-  worded : (r : Result Datagram WrongWord) → reading_words (xs ++ 13 ∷ []) ≡ r → in_words r ≡ Ok (Arrive d) → ⊥
+no_return : (xs : List ℕ) (d : DrawopValue) → part_of (script_line_of (xs ++ 13 ∷ [])) ≡ Arrival d → ⊥
+no_return xs d p = at (begins_datagram (xs ++ 13 ∷ [])) (said_arrival (script_line_of (xs ++ 13 ∷ [])) d p) where
+  worded : (r : Result Datagram WrongWord) → reading_words (xs ++ 13 ∷ []) ≡ r → script_in_words r ≡ Ok (Arrive d) → ⊥
   worded (Ok v) is f = no_return_ends xs (read_visible (xs ++ 13 ∷ []) v is)
   worded (Err wrong) is f = absurd cc
 
-  at : (begins : Bool) → cond begins (in_words (reading_words (xs ++ 13 ∷ []))) (line_of_words (words (xs ++ 13 ∷ []))) ≡ Ok (Arrive d) → ⊥
+  at : (begins : Bool) → cond begins (script_in_words (reading_words (xs ++ 13 ∷ []))) (script_line_of_words (words (xs ++ 13 ∷ []))) ≡ Ok (Arrive d) → ⊥
   at true f = worded (reading_words (xs ++ 13 ∷ [])) refl f
-  at false f = let e = ends_so [] xs in no_arrival e.0 e.1 d (ap line_of_words (sym e.2) ∙ f)
+  at false f = let e = ends_so [] xs in no_arrival e.0 e.1 d (ap script_line_of_words (sym e.2) ∙ f)
 
 -- So it is its content.
-pub unreturned : (bytes : List ℕ) (d : DrawopValue) → part_of (line_of bytes) ≡ Arrival d → strip_carriage_return bytes ≡ bytes
+pub unreturned : (bytes : List ℕ) (d : DrawopValue) → part_of (script_line_of bytes) ≡ Arrival d → strip_carriage_return bytes ≡ bytes
 unreturned bytes d p = at (stripped bytes) where
   at : (strip_carriage_return bytes ≡ bytes) ⊎ (bytes ≡ strip_carriage_return bytes ++ 13 ∷ []) → strip_carriage_return bytes ≡ bytes
   at (inl e) = e
-  at (inr e) = absurd (no_return (strip_carriage_return bytes) d (ap (λ (b : List ℕ). part_of (line_of b)) (sym e) ∙ p))
+  at (inr e) = absurd (no_return (strip_carriage_return bytes) d (ap (λ (b : List ℕ). part_of (script_line_of b)) (sym e) ∙ p))
 
 -- It has some bytes.
-pub some_bytes : (bytes : List ℕ) (d : DrawopValue) → part_of (line_of bytes) ≡ Arrival d → bytes ≡ [] → ⊥
+pub some_bytes : (bytes : List ℕ) (d : DrawopValue) → part_of (script_line_of bytes) ≡ Arrival d → bytes ≡ [] → ⊥
 unfolding is_kind
-some_bytes bytes d p none = let said = ap (λ (b : List ℕ). part_of (line_of b)) (sym none) ∙ p in absurd cc
+some_bytes bytes d p none = let said = ap (λ (b : List ℕ). part_of (script_line_of b)) (sym none) ∙ p in absurd cc

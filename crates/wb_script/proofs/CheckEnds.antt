@@ -10,7 +10,7 @@ use Rattle.wb_commands.specs.declared.fault.LineFault.{LineFault}
 use Rattle.wb_script.specs.declared.fault.RunFault.{RunFault}
 use Rattle.wb_script.specs.declared.fault.RunFault.TheVariants as run_faults
 use Rattle.wb_script.specs.Script.{most_lines}
-use Rattle.wb_script.specs.Checking.{check_step, fault_of, answer_of, answer_at_end, Checks, IsCounted}
+use Rattle.wb_script.specs.Checking.{check_step, check_fault, check_answer, answer_at_end, Checks, IsCounted}
 use Rattle.wb_script.proofs.Counted.{EndsCounted, counted_before, few_after, meets_counted}
 
 -- ---- the number of a line that stops a check
@@ -42,17 +42,17 @@ is_counted cut input written e m = meets_counted (outcome (rules_of check_step m
 
 -- ---- the answer
 
-checks_stopped : (cut : Bool) (input : List ℕ) (result : Result ℕ (DriveFault LineFault)) → result ≢ Err faults.Write → IsStopped result → Checks cut input (answer_of result)
+checks_stopped : (cut : Bool) (input : List ℕ) (result : Result ℕ (DriveFault LineFault)) → result ≢ Err faults.Write → IsStopped result → Checks cut input (check_answer result)
 checks_stopped cut input (Err faults.Write) unwritten h = absurd (unwritten refl)
 checks_stopped cut input (Err faults.Memory) unwritten h = inr refl
 checks_stopped cut input result unwritten h = absurd h
 
 checks_met : (cut : Bool) (input written : List ℕ) (o : Outcome LineFault) (result : Result ℕ (DriveFault LineFault)) → outcome (rules_of check_step most_lines) cut tt input ≡ o → result ≢ Err faults.Write
-    → Meets o written result → Checks cut input (answer_of result)
-checks_met cut input written (writes text end) result is unwritten (inl m) = inl (ap answer_of m.1 ∙ ap answer_at_end (sym is))
+    → Meets o written result → Checks cut input (check_answer result)
+checks_met cut input written (writes text end) result is unwritten (inl m) = inl (ap check_answer m.1 ∙ ap answer_at_end (sym is))
 checks_met cut input written (writes text end) result is unwritten (inr m) = checks_stopped cut input result unwritten m.0
 
-pub checks : (cut : Bool) (input written : List ℕ) (result : Result ℕ (DriveFault LineFault)) → result ≢ Err faults.Write → Meets (outcome (rules_of check_step most_lines) cut tt input) written result → Checks cut input (answer_of result)
+pub checks : (cut : Bool) (input written : List ℕ) (result : Result ℕ (DriveFault LineFault)) → result ≢ Err faults.Write → Meets (outcome (rules_of check_step most_lines) cut tt input) written result → Checks cut input (check_answer result)
 checks cut input written result unwritten m = checks_met cut input written (outcome (rules_of check_step most_lines) cut tt input) result refl unwritten m
 
 -- ---- a check fails to read only where its driver does, and it writes nothing
@@ -60,10 +60,10 @@ checks cut input written result unwritten m = checks_met cut input written (outc
 pub same_fault : {X : Type 0} (e f : RunFault) (x y : Result X RunFault) → x ≡ Err e → y ≡ Err f → x ≡ y → e ≡ f
 same_fault e f x y p q h = cc
 
-pub fault_reads : (e : DriveFault LineFault) → fault_of e ≡ run_faults.Read → e ≡ faults.Read
+pub fault_reads : (e : DriveFault LineFault) → check_fault e ≡ run_faults.Read → e ≡ faults.Read
 fault_reads faults.Read h = refl
 fault_reads e h = absurd cc
 
-pub fault_writes : (e : DriveFault LineFault) → fault_of e ≡ run_faults.Write → e ≡ faults.Write
+pub fault_writes : (e : DriveFault LineFault) → check_fault e ≡ run_faults.Write → e ≡ faults.Write
 fault_writes faults.Write h = refl
 fault_writes e h = absurd cc

@@ -11,7 +11,7 @@ use Rattle.wb_lines.proofs.Outcomes.{few_lines, short_line, passed_line}
 use Rattle.wb_commands.specs.declared.fault.LineFault.{LineFault}
 use Rattle.wb_script.specs.declared.fault.RunFault.{RunFault}
 use Rattle.wb_commands.specs.declared.command.Command.{Command}
-use Rattle.wb_commands.specs.Parsing.{line_of}
+use Rattle.wb_commands.specs.Parsing.{script_line_of}
 use Rattle.wb_script.specs.Script.{most_lines}
 use Rattle.wb_script.specs.Checking.{parsed_step, check_step, answer_at_end, CountsLines}
 
@@ -19,7 +19,7 @@ abbrev IsShort : InputLine → Type 0
 IsShort line = length line.bytes ≤ most_bytes
 
 abbrev IsParsed : InputLine → Type 0
-IsParsed line = IsOk (line_of (content line))
+IsParsed line = IsOk (script_line_of (content line))
 
 -- ---- one line, which is short or not, by what the handler does with it
 
@@ -71,7 +71,7 @@ passes few short passed number does line said rest p is_few is_short is_passed p
 abbrev checked_from : ℕ → List InputLine → Result ℕ RunFault
 checked_from n lines = answer_at_end (outcome_from (rules_of check_step most_lines) false n tt lines)
 
-parses_line : (number : ℕ) (line : InputLine) → Parses (check_step tt number) line (line_of (content line))
+parses_line : (number : ℕ) (line : InputLine) → Parses (check_step tt number) line (script_line_of (content line))
 parses_line number line = record { on_whole = refl; on_long = refl }
 
 few_of : (n : ℕ) → nat_lt n most_lines ≡ true → n < most_lines
@@ -92,7 +92,7 @@ record IsCounted (n : ℕ) (lines : List InputLine) (m : ℕ) : Type 0 where
 counted : (n : ℕ) (lines : List InputLine) (m : ℕ) → n ≤ most_lines → checked_from n lines ≡ Ok m → IsCounted n lines m
 counted n [] m few e = record { number = let same = ok_of n m (Ok n) (Ok m) refl refl e in omega arith; few = omega arith; short = All-nil IsShort; parsed = All-nil IsParsed }
 counted n (line ∷ lines) m few e =
-    let on = goes_on (nat_lt n most_lines) (nat_le (length line.bytes) most_bytes) (nat_lt (length line.bytes) most_passed) (n + 1) (check_step tt (n + 1)) line (line_of (content line)) (outcome_from (rules_of check_step most_lines) false (n + 1) tt lines) m (parses_line (n + 1) line) e in
+    let on = goes_on (nat_lt n most_lines) (nat_le (length line.bytes) most_bytes) (nat_lt (length line.bytes) most_passed) (n + 1) (check_step tt (n + 1)) line (script_line_of (content line)) (outcome_from (rules_of check_step most_lines) false (n + 1) tt lines) m (parses_line (n + 1) line) e in
     let below = few_of n on.is_few in
     let rest = counted (n + 1) lines m (omega (arith, below)) on.on in
     record {
@@ -108,7 +108,7 @@ counts n (line ∷ lines) few short parsed =
     let here = All-head IsShort line lines short in
     let rest = counts (n + 1) lines (omega arith) (All-tail IsShort line lines short) (All-tail IsParsed line lines parsed) in
     let all : n + 1 + length lines ≡ n + length (line ∷ lines) = omega arith in
-    passes (nat_lt n most_lines) (nat_le (length line.bytes) most_bytes) (nat_lt (length line.bytes) most_passed) (n + 1) (check_step tt (n + 1)) line (line_of (content line)) (outcome_from (rules_of check_step most_lines) false (n + 1) tt lines) (parses_line (n + 1) line)
+    passes (nat_lt n most_lines) (nat_le (length line.bytes) most_bytes) (nat_lt (length line.bytes) most_passed) (n + 1) (check_step tt (n + 1)) line (script_line_of (content line)) (outcome_from (rules_of check_step most_lines) false (n + 1) tt lines) (parses_line (n + 1) line)
     (few_lines most_lines n (omega arith)) (short_line line.bytes here) (passed_line line.bytes here) (All-head IsParsed line lines parsed)
     ∙ rest ∙ ap (λ (k : ℕ). Ok k) all
 

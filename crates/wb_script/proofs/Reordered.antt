@@ -10,7 +10,7 @@ use Rattle.wb_script.specs.declared.fault.RunFault.TheVariants as run_faults
 use Rattle.wb_member.specs.Opened.{Opened}
 use Rattle.wb_script.specs.Reordering.{part_at, other_than, others_of, onto_batch, batches_with, batches_of, AreRearranged, IsReorderedBy}
 use Rattle.wb_lines.specs.Input.{InputLine, content}
-use Rattle.wb_script.specs.Script.{State, start, closing_text, after_batch, Closing, Part, Arrival, Nothing, End, part_in, Step, goes, refused, part_step, Outcome, before, finish, proceed, continue, most_lines, outcome_from, Finishes, Proceeds, fault_at, Continues, IsOutcomeFrom}
+use Rattle.wb_script.specs.Script.{RunState, run_start, closing_text, after_batch, Closing, Part, Arrival, Nothing, End, part_in, RunStep, moves_on, refused, part_step, RunOutcome, printed_before, finish, follow_step, continue, most_lines, run_outcome_from, Finishes, Proceeds, fault_at, Continues, IsOutcomeFrom}
 use Rattle.wb_script.proofs.Lifted.{lifted}
 use Rattle.wb_script.proofs.ReorderedLines.{onto_same, onto_none, onto_onto, Taken, lines_in, drawops_in, no_fault, arrives_at, part_here, line_course, alone, state, NoneWaits, none_waits, none_left}
 
@@ -18,17 +18,17 @@ abbrev pub entire : InputLine → InputLine
 entire line = line
 
 -- Lines that one thread takes with this outcome, behind other arrivals of the present batch: both as in the script, but for the places of the arrivals.
-record Found (cut : Bool) (n : ℕ) (s : State) (ws : List (Taken cut)) (lines : List InputLine) (o : Outcome) : Type 0 where
+record Found (cut : Bool) (n : ℕ) (s : RunState) (ws : List (Taken cut)) (lines : List InputLine) (o : RunOutcome) : Type 0 where
   taken : List (Taken cut)
   reordered : List InputLine
   long : length taken ≡ length ws
   others : others_of cut n reordered ≡ others_of cut n lines
   batches : AreRearranged (onto_batch (lines_in ws) (batches_of entire cut n lines)) (onto_batch (lines_in taken) (batches_of entire cut n reordered))
   moved : IsPermutation (lines_in ws ++ lines) (lines_in taken ++ reordered)
-  is : o ≡ outcome_from cut n (alone s (drawops_in taken)) reordered
+  is : o ≡ run_outcome_from cut n (alone s (drawops_in taken)) reordered
 
 abbrev Finds : Bool → ℕ → List InputLine → Type 0
-Finds cut n lines = (s : State) (ws : List (Taken cut)) (o : Outcome) → s.waiting ≡ drawops_in ws → IsOutcomeFrom cut n s lines o → Found cut n s ws lines o
+Finds cut n lines = (s : RunState) (ws : List (Taken cut)) (o : RunOutcome) → s.waiting ≡ drawops_in ws → IsOutcomeFrom cut n s lines o → Found cut n s ws lines o
 
 -- the last of a list
 record Last {X : Type 0} (xs : List X) (count : ℕ) : Type 0 where
@@ -52,8 +52,8 @@ line_between xs ys more others line p =
 
 module _ (cut : Bool) (n : ℕ) where
   -- ---- the batch is taken in this order, and nothing behind it changes places
-  stays : (s : State) (ws : List (Taken cut)) (lines : List InputLine) (o : Outcome) (order : List DrawopValue)
-      → s.waiting ≡ drawops_in ws → IsPermutation s.waiting order → o ≡ outcome_from cut n (alone s order) lines → Found cut n s ws lines o
+  stays : (s : RunState) (ws : List (Taken cut)) (lines : List InputLine) (o : RunOutcome) (order : List DrawopValue)
+      → s.waiting ≡ drawops_in ws → IsPermutation s.waiting order → o ≡ run_outcome_from cut n (alone s order) lines → Found cut n s ws lines o
   stays s ws lines o order waits moved e =
       let l = lifted (λ (w : Taken cut). w.drawop) ws order (subst (λ (waiting : List DrawopValue). IsPermutation waiting order) waits moved) in
       record {
@@ -63,36 +63,36 @@ module _ (cut : Bool) (n : ℕ) where
         others = refl;
         batches = onto_same (lines_in ws) (lines_in l.to) (batches_of entire cut n lines) (IsPermutation-map (λ (w : Taken cut). w.line) ws l.to l.moved);
         moved = IsPermutation-append_left lines (lines_in ws) (lines_in l.to) (IsPermutation-map (λ (w : Taken cut). w.line) ws l.to l.moved);
-        is = e ∙ ap (λ (order : List DrawopValue). outcome_from cut n (alone s order) lines) (sym l.is);
+        is = e ∙ ap (λ (order : List DrawopValue). run_outcome_from cut n (alone s order) lines) (sym l.is);
       }
 
-  ends : (s : State) (ws : List (Taken cut)) (lines : List InputLine) (o : Outcome) (ending : Result ℕ RunFault)
-      → s.waiting ≡ drawops_in ws → Finishes s ending o → ((t : State) → outcome_from cut n t lines ≡ finish t t.waiting ending) → Found cut n s ws lines o
+  ends : (s : RunState) (ws : List (Taken cut)) (lines : List InputLine) (o : RunOutcome) (ending : Result ℕ RunFault)
+      → s.waiting ≡ drawops_in ws → Finishes s ending o → ((t : RunState) → run_outcome_from cut n t lines ≡ finish t t.waiting ending) → Found cut n s ws lines o
   ends s ws lines o ending waits f h =
       stays s ws lines o f.0 waits f.1.moved (f.2 ∙ sym (h (alone s f.0)))
 
   module _ (line : InputLine) (lines : List InputLine) (rest : Finds cut (n + 1) lines) (taken_here : fault_at cut n line ≡ None) where
-    abbrev Rest : State → Outcome → Type 0
+    abbrev Rest : RunState → RunOutcome → Type 0
     Rest t next = IsOutcomeFrom cut (n + 1) t lines next
 
-    abbrev one : State → Outcome
-    one t = outcome_from cut (n + 1) t lines
+    abbrev one : RunState → RunOutcome
+    one t = run_outcome_from cut (n + 1) t lines
 
     -- ---- a line that is refused before its batch has ended
-    refuses : (part : Part) (e : LineFault) (s : State) (ws : List (Taken cut)) (o : Outcome) → part_in line ≡ part → s.waiting ≡ drawops_in ws
+    refuses : (part : Part) (e : LineFault) (s : RunState) (ws : List (Taken cut)) (o : RunOutcome) → part_in line ≡ part → s.waiting ≡ drawops_in ws
         → ((order : List DrawopValue) → part_step (alone s order) order part ≡ refused (alone s order) [] e)
         → Proceeds (n + 1) Rest o (refused s [] e) → Found cut n s ws (line ∷ lines) o
     refuses part e s ws o is waits step p =
         let f = p.1 in
         stays s ws (line ∷ lines) o f.0 waits f.1.moved (
-        p.2 ∙ ap (before []) f.2
-        ∙ ap (λ (step : Step). proceed (n + 1) step one) (sym (step f.0))
+        p.2 ∙ ap (printed_before []) f.2
+        ∙ ap (λ (step : RunStep). follow_step (n + 1) step one) (sym (step f.0))
         ∙ sym (line_course cut n (alone s f.0) line lines part taken_here is)
         )
 
     -- ---- a skipped line
-    skips : (s : State) (ws : List (Taken cut)) (o : Outcome) → part_in line ≡ Nothing → s.waiting ≡ drawops_in ws
-        → Proceeds (n + 1) Rest o (goes s []) → Found cut n s ws (line ∷ lines) o
+    skips : (s : RunState) (ws : List (Taken cut)) (o : RunOutcome) → part_in line ≡ Nothing → s.waiting ≡ drawops_in ws
+        → Proceeds (n + 1) Rest o (moves_on s []) → Found cut n s ws (line ∷ lines) o
     skips s ws o is waits p =
         let q = rest s ws p.0 waits p.1 in
         record {
@@ -103,7 +103,7 @@ module _ (cut : Bool) (n : ℕ) where
           batches = subst (λ (part : Option Part). AreRearranged (onto_batch (lines_in ws) (batches_with part line (batches_of entire cut (n + 1) lines))) (onto_batch (lines_in q.taken) (batches_with part line (batches_of entire cut (n + 1) q.reordered))))
               (sym (part_here cut n line Nothing taken_here is)) q.batches;
           moved = line_between (lines_in ws) (lines_in q.taken) lines q.reordered line q.moved;
-          is = p.2 ∙ ap (before []) q.is ∙ sym (line_course cut n (alone s (drawops_in q.taken)) line q.reordered Nothing taken_here is);
+          is = p.2 ∙ ap (printed_before []) q.is ∙ sym (line_course cut n (alone s (drawops_in q.taken)) line q.reordered Nothing taken_here is);
         }
 
     -- ---- an arrival
@@ -116,13 +116,13 @@ module _ (cut : Bool) (n : ℕ) where
     lines_behind : (ws : List (Taken cut)) (w : Taken cut) (more : List InputLine) → lines_in (ws ++ w ∷ []) ++ more ≡ lines_in ws ++ w.line ∷ more
     lines_behind ws w more = ap (λ (l : List InputLine). l ++ more) (map-append (λ (w : Taken cut). w.line) ws (w ∷ [])) ∙ append_assoc (lines_in ws) (w.line ∷ []) more
 
-    arrives : (k : Option ℕ) (host : Opened) (waiting : List DrawopValue) (d : DrawopValue) (ws : List (Taken cut)) (o : Outcome) → part_in line ≡ Arrival d → waiting ≡ drawops_in ws
-        → Proceeds (n + 1) Rest o (goes (state k (Some host) (waiting ++ d ∷ [])) []) → Found cut n (state k (Some host) waiting) ws (line ∷ lines) o
+    arrives : (k : Option ℕ) (host : Opened) (waiting : List DrawopValue) (d : DrawopValue) (ws : List (Taken cut)) (o : RunOutcome) → part_in line ≡ Arrival d → waiting ≡ drawops_in ws
+        → Proceeds (n + 1) Rest o (moves_on (state k (Some host) (waiting ++ d ∷ [])) []) → Found cut n (state k (Some host) waiting) ws (line ∷ lines) o
     arrives k host waiting d ws o is waits p =
         let free = no_fault cut n line taken_here in
         let w : Taken cut = record { line = line; drawop = d; short = free.short; whole = free.whole; said = is } in
-        let here : State = state k (Some host) waiting in
-        let next : State = state k (Some host) (waiting ++ d ∷ []) in
+        let here : RunState = state k (Some host) waiting in
+        let next : RunState = state k (Some host) (waiting ++ d ∷ []) in
         let q = rest next (ws ++ w ∷ []) p.0 (ap (λ (l : List DrawopValue). l ++ d ∷ []) waits ∙ sym (map-append (λ (w : Taken cut). w.drawop) ws (w ∷ []))) p.1 in
         let l = last_of q.taken (length ws) (q.long ∙ length-append ws (w ∷ [])) in
         let v : Taken cut = l.last in
@@ -139,14 +139,14 @@ module _ (cut : Bool) (n : ℕ) where
           moved = subst (λ (xs : List InputLine). IsPermutation xs (lines_in l.front ++ v.line ∷ q.reordered)) (lines_behind ws w lines)
               (subst (IsPermutation (lines_in (ws ++ w ∷ []) ++ lines)) (lines_behind l.front v q.reordered)
               (subst (λ (taken : List (Taken cut)). IsPermutation (lines_in (ws ++ w ∷ []) ++ lines) (lines_in taken ++ q.reordered)) l.is q.moved));
-          is = p.2 ∙ ap (before []) (q.is ∙ ap (λ (taken : List DrawopValue). outcome_from cut (n + 1) (alone next taken) q.reordered) (ap drawops_in l.is ∙ map-append (λ (w : Taken cut). w.drawop) l.front (v ∷ [])))
+          is = p.2 ∙ ap (printed_before []) (q.is ∙ ap (λ (taken : List DrawopValue). run_outcome_from cut (n + 1) (alone next taken) q.reordered) (ap drawops_in l.is ∙ map-append (λ (w : Taken cut). w.drawop) l.front (v ∷ [])))
               ∙ sym (line_course cut n (alone here (drawops_in l.front)) v.line q.reordered (Arrival v.drawop) fault v.said);
         }
 
     -- ---- a line that ends its batch, which is taken in this order
-    goes_on : (c : Closing) (s t : State) (ws : List (Taken cut)) (order : List DrawopValue) (text : List ℕ) (o next : Outcome) → part_in line ≡ End c
-        → s.waiting ≡ drawops_in ws → IsPermutation s.waiting order → t.waiting ≡ [] → part_step (alone s order) order (End c) ≡ goes (alone t []) text
-        → Rest t next → o ≡ before text next → Found cut n s ws (line ∷ lines) o
+    goes_on : (c : Closing) (s t : RunState) (ws : List (Taken cut)) (order : List DrawopValue) (text : List ℕ) (o next : RunOutcome) → part_in line ≡ End c
+        → s.waiting ≡ drawops_in ws → IsPermutation s.waiting order → t.waiting ≡ [] → part_step (alone s order) order (End c) ≡ moves_on (alone t []) text
+        → Rest t next → o ≡ printed_before text next → Found cut n s ws (line ∷ lines) o
     goes_on c s t ws order text o next is waits moved empty step r e =
         let l = lifted (λ (w : Taken cut). w.drawop) ws order (subst (λ (waiting : List DrawopValue). IsPermutation waiting order) waits moved) in
         let q = rest t [] next empty r in
@@ -162,42 +162,42 @@ module _ (cut : Bool) (n : ℕ) where
               (sym (part_here cut n line (End c) taken_here is)) (IsPermutation-append_left [] (lines_in ws) (lines_in l.to) (IsPermutation-map (λ (w : Taken cut). w.line) ws l.to l.moved), batches);
           moved = IsPermutation-append (lines_in ws) (lines_in l.to) (line ∷ lines) (line ∷ q.reordered) (IsPermutation-map (λ (w : Taken cut). w.line) ws l.to l.moved)
               (IsPermutation-cons line lines q.reordered (subst (λ (taken : List (Taken cut)). IsPermutation lines (lines_in taken ++ q.reordered)) none q.moved));
-          is = e ∙ ap (before text) (q.is ∙ ap (λ (taken : List (Taken cut)). outcome_from cut (n + 1) (alone t (drawops_in taken)) q.reordered) none)
-              ∙ ap (λ (step : Step). proceed (n + 1) step (λ t. outcome_from cut (n + 1) t q.reordered)) (sym step)
+          is = e ∙ ap (printed_before text) (q.is ∙ ap (λ (taken : List (Taken cut)). run_outcome_from cut (n + 1) (alone t (drawops_in taken)) q.reordered) none)
+              ∙ ap (λ (step : RunStep). follow_step (n + 1) step (λ t. run_outcome_from cut (n + 1) t q.reordered)) (sym step)
               ∙ sym (line_course cut n (alone s order) line q.reordered (End c) taken_here is)
-              ∙ ap (λ (order : List DrawopValue). outcome_from cut n (alone s order) (line ∷ q.reordered)) (sym l.is);
+              ∙ ap (λ (order : List DrawopValue). run_outcome_from cut n (alone s order) (line ∷ q.reordered)) (sym l.is);
         }
 
-    comes_in : (k : Option ℕ) (host : Option Opened) (waiting : List DrawopValue) (d : DrawopValue) (ws : List (Taken cut)) (o : Outcome) → part_in line ≡ Arrival d → waiting ≡ drawops_in ws
+    comes_in : (k : Option ℕ) (host : Option Opened) (waiting : List DrawopValue) (d : DrawopValue) (ws : List (Taken cut)) (o : RunOutcome) → part_in line ≡ Arrival d → waiting ≡ drawops_in ws
         → Proceeds (n + 1) Rest o (part_step (state k host waiting) waiting (Arrival d)) → Found cut n (state k host waiting) ws (line ∷ lines) o
     comes_in k None waiting d ws o is waits p = refuses (Arrival d) faults.NoBoard (state k None waiting) ws o is waits (λ order. refl) p
     comes_in k (Some host) waiting d ws o is waits p = arrives k host waiting d ws o is waits p
 
-    closes : (c : Closing) (s : State) (ws : List (Taken cut)) (order : List DrawopValue) (o : Outcome) (step : Step) → part_in line ≡ End c → s.waiting ≡ drawops_in ws → IsPermutation s.waiting order
+    closes : (c : Closing) (s : RunState) (ws : List (Taken cut)) (order : List DrawopValue) (o : RunOutcome) (step : RunStep) → part_in line ≡ End c → s.waiting ≡ drawops_in ws → IsPermutation s.waiting order
         → part_step (alone s order) order (End c) ≡ step → NoneWaits (λ k. Unit {0}) step → Proceeds (n + 1) Rest o step → Found cut n s ws (line ∷ lines) o
-    closes c s ws order o (goes t text) is waits moved step none p =
-        goes_on c s t ws order text o p.0 is waits moved none.1 (step ∙ ap (λ (w : List DrawopValue). goes (state t.workers t.host w) text) none.1) p.1 p.2
+    closes c s ws order o (moves_on t text) is waits moved step none p =
+        goes_on c s t ws order text o p.0 is waits moved none.1 (step ∙ ap (λ (w : List DrawopValue). moves_on (state t.workers t.host w) text) none.1) p.1 p.2
     closes c s ws order o (refused t text e) is waits moved step none p =
         let last = p.1 in
         stays s ws (line ∷ lines) o order waits moved (
-        p.2 ∙ ap (before text) (last.2 ∙ ap (λ (l : List DrawopValue). finish t l (Err (run_faults.Line (n + 1) e))) (none_left t.waiting last.0 none last.1.moved))
-        ∙ ap (λ (step : Step). proceed (n + 1) step one) (sym step)
+        p.2 ∙ ap (printed_before text) (last.2 ∙ ap (λ (l : List DrawopValue). finish t l (Err (run_faults.Line (n + 1) e))) (none_left t.waiting last.0 none last.1.moved))
+        ∙ ap (λ (step : RunStep). follow_step (n + 1) step one) (sym step)
         ∙ sym (line_course cut n (alone s order) line lines (End c) taken_here is)
         )
 
-    says : (part : Part) (s : State) (order : List DrawopValue) (ws : List (Taken cut)) (o : Outcome) → part_in line ≡ part → s.waiting ≡ drawops_in ws → IsPermutation s.waiting order
+    says : (part : Part) (s : RunState) (order : List DrawopValue) (ws : List (Taken cut)) (o : RunOutcome) → part_in line ≡ part → s.waiting ≡ drawops_in ws → IsPermutation s.waiting order
         → Proceeds (n + 1) Rest o (part_step s order part) → Found cut n s ws (line ∷ lines) o
     says Nothing s order ws o is waits moved p = skips s ws o is waits p
     says (Arrival d) s order ws o is waits moved p = comes_in s.workers s.host s.waiting d ws o is waits p
     says (End c) s order ws o is waits moved p =
         closes c s ws order o (part_step s order (End c)) is waits moved refl (none_waits (λ k. Unit {0}) s.workers (after_batch s order).host (closing_text s order) c tt (λ w. tt)) p
 
-  faulty : (line : InputLine) (lines : List InputLine) (s : State) (ws : List (Taken cut)) (o : Outcome) (e : RunFault) → fault_at cut n line ≡ Some e → s.waiting ≡ drawops_in ws
+  faulty : (line : InputLine) (lines : List InputLine) (s : RunState) (ws : List (Taken cut)) (o : RunOutcome) (e : RunFault) → fault_at cut n line ≡ Some e → s.waiting ≡ drawops_in ws
       → Finishes s (Err e) o → Found cut n s ws (line ∷ lines) o
   faulty line lines s ws o e is waits f =
-      ends s ws (line ∷ lines) o (Err e) waits f (λ t. ap (λ (f : Option RunFault). continue f (n + 1) t (content line) (λ u. outcome_from cut (n + 1) u lines)) is)
+      ends s ws (line ∷ lines) o (Err e) waits f (λ t. ap (λ (f : Option RunFault). continue f (n + 1) t (content line) (λ u. run_outcome_from cut (n + 1) u lines)) is)
 
-  continues : (line : InputLine) (lines : List InputLine) (rest : Finds cut (n + 1) lines) (fault : Option RunFault) (s : State) (ws : List (Taken cut)) (o : Outcome) → fault_at cut n line ≡ fault → s.waiting ≡ drawops_in ws
+  continues : (line : InputLine) (lines : List InputLine) (rest : Finds cut (n + 1) lines) (fault : Option RunFault) (s : RunState) (ws : List (Taken cut)) (o : RunOutcome) → fault_at cut n line ≡ fault → s.waiting ≡ drawops_in ws
       → Continues fault (n + 1) s (content line) (λ t next. IsOutcomeFrom cut (n + 1) t lines next) o → Found cut n s ws (line ∷ lines) o
   continues line lines rest None s ws o is waits c = says line lines rest is (part_in line) s c.0 ws o refl waits c.1.moved c.2
   continues line lines rest (Some e) s ws o is waits c = faulty line lines s ws o e is waits c
@@ -207,15 +207,15 @@ found cut n [] s ws o waits h = ends cut n s ws [] o (cond cut (Err run_faults.R
 found cut n (line ∷ lines) s ws o waits h = continues cut n line lines (found cut (n + 1) lines) (fault_at cut n line) s ws o refl waits h
 
 -- the lines of a whole script
-pub record Reorders (workers : Option ℕ) (cut : Bool) (lines : List InputLine) (o : Outcome) : Type 0 where
+pub record Reorders (workers : Option ℕ) (cut : Bool) (lines : List InputLine) (o : RunOutcome) : Type 0 where
   pub to : List InputLine
   pub inside : IsReorderedBy entire cut lines to
   pub moved : IsPermutation lines to
-  pub is : o ≡ outcome_from cut 0 (start workers) to
+  pub is : o ≡ run_outcome_from cut 0 (run_start workers) to
 
-pub reorders : (workers : Option ℕ) (cut : Bool) (lines : List InputLine) (o : Outcome) → IsOutcomeFrom cut 0 (start workers) lines o → Reorders workers cut lines o
+pub reorders : (workers : Option ℕ) (cut : Bool) (lines : List InputLine) (o : RunOutcome) → IsOutcomeFrom cut 0 (run_start workers) lines o → Reorders workers cut lines o
 reorders workers cut lines o h =
-    let f = found cut 0 lines (start workers) [] o refl h in
+    let f = found cut 0 lines (run_start workers) [] o refl h in
     let none : f.taken ≡ [] = nil_from_length f.taken f.long in
     record {
       to = f.reordered;
@@ -224,5 +224,5 @@ reorders workers cut lines o h =
         batches = onto_none (batches_of entire cut 0 lines) (batches_of entire cut 0 f.reordered) (subst (λ (taken : List (Taken cut)). AreRearranged (onto_batch [] (batches_of entire cut 0 lines)) (onto_batch (lines_in taken) (batches_of entire cut 0 f.reordered))) none f.batches);
       };
       moved = subst (λ (taken : List (Taken cut)). IsPermutation lines (lines_in taken ++ f.reordered)) none f.moved;
-      is = f.is ∙ ap (λ (taken : List (Taken cut)). outcome_from cut 0 (alone (start workers) (drawops_in taken)) f.reordered) none;
+      is = f.is ∙ ap (λ (taken : List (Taken cut)). run_outcome_from cut 0 (alone (run_start workers) (drawops_in taken)) f.reordered) none;
     }

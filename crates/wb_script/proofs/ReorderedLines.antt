@@ -9,7 +9,7 @@ use Rattle.wb_member.specs.Opened.{Opened}
 use Rattle.wb_commands.specs.Acts.{Act, does, fails, act}
 use Rattle.wb_script.specs.Reordering.{part_unless, part_at, other_than, onto_batch, AreRearranged}
 use Rattle.wb_lines.specs.Input.{InputLine, content, most_bytes}
-use Rattle.wb_script.specs.Script.{State, Closing, Opens, Acts, Faulty, Part, Arrival, Nothing, End, part_in, Step, goes, refused, step_by, closing_step, part_step, proceed, continue, most_lines, outcome_from, fault_at}
+use Rattle.wb_script.specs.Script.{RunState, Closing, Opens, Acts, Faulty, Part, Arrival, Nothing, End, part_in, RunStep, moves_on, refused, step_by, closing_step, part_step, follow_step, continue, most_lines, run_outcome_from, fault_at}
 
 -- ---- batches
 
@@ -97,24 +97,24 @@ others_same a b xs ys e = cc
 
 -- ---- one line, by one thread
 
-pub line_course : (cut : Bool) (n : ℕ) (s : State) (line : InputLine) (lines : List InputLine) (part : Part) → fault_at cut n line ≡ None → part_in line ≡ part
-    → outcome_from cut n s (line ∷ lines) ≡ proceed (n + 1) (part_step s s.waiting part) (λ t. outcome_from cut (n + 1) t lines)
+pub line_course : (cut : Bool) (n : ℕ) (s : RunState) (line : InputLine) (lines : List InputLine) (part : Part) → fault_at cut n line ≡ None → part_in line ≡ part
+    → run_outcome_from cut n s (line ∷ lines) ≡ follow_step (n + 1) (part_step s s.waiting part) (λ t. run_outcome_from cut (n + 1) t lines)
 line_course cut n s line lines part e g =
-    ap (λ (f : Option RunFault). continue f (n + 1) s (content line) (λ t. outcome_from cut (n + 1) t lines)) e
-    ∙ ap (λ (r : Part). proceed (n + 1) (part_step s s.waiting r) (λ t. outcome_from cut (n + 1) t lines)) g
+    ap (λ (f : Option RunFault). continue f (n + 1) s (content line) (λ t. run_outcome_from cut (n + 1) t lines)) e
+    ∙ ap (λ (r : Part). follow_step (n + 1) (part_step s s.waiting r) (λ t. run_outcome_from cut (n + 1) t lines)) g
 
 -- ---- the state of one thread, to which the present batch came in this order
 
-abbrev pub state : Option ℕ → Option Opened → List DrawopValue → State
+abbrev pub state : Option ℕ → Option Opened → List DrawopValue → RunState
 state k host waiting = record { host = host; workers = k; waiting = waiting }
 
-abbrev pub alone : State → List DrawopValue → State
+abbrev pub alone : RunState → List DrawopValue → RunState
 alone s waiting = state s.workers s.host waiting
 
 -- ---- a line that ends its batch: none waits then
 
-abbrev pub NoneWaits : (Option ℕ → Type 0) → Step → Type 0
-NoneWaits Has (goes t text) = Has t.workers × (t.waiting ≡ [])
+abbrev pub NoneWaits : (Option ℕ → Type 0) → RunStep → Type 0
+NoneWaits Has (moves_on t text) = Has t.workers × (t.waiting ≡ [])
 NoneWaits Has (refused t text e) = t.waiting ≡ []
 
 act_ends : (Has : Option ℕ → Type 0) (k : Option ℕ) (text : List ℕ) (a : Act) (host : Opened) → Has k → NoneWaits Has (step_by k text a host)

@@ -9,9 +9,9 @@ use Rattle.wb_lines.specs.Ahead.{NoLineFeed}
 use Rattle.wb_lines.specs.Input.{InputLine, input_lines, content, most_bytes}
 use Rattle.wb_lines.proofs.StandingLines.{all_bytes, AreLines, reads, lines_again, stripped}
 use Rattle.wb_script.specs.declared.fault.RunFault.{RunFault}
-use Rattle.wb_commands.specs.Parsing.{line_of}
+use Rattle.wb_commands.specs.Parsing.{script_line_of}
 use Rattle.wb_script.specs.Reordering.{part_at, other_than, others_of, batches_with, batches_of, AreRearranged, IsReorderedBy, WorkersAreOneThread}
-use Rattle.wb_script.specs.Script.{State, start, Outcome, Arrival, Part, part_of, part_in, Step, goes, refused, step_of, before, proceed, continue, outcome_from, fault_at}
+use Rattle.wb_script.specs.Script.{RunState, run_start, RunOutcome, Arrival, Part, part_of, part_in, RunStep, moves_on, refused, step_of, printed_before, follow_step, continue, run_outcome_from, fault_at}
 use Rattle.wb_script.specs.ScriptLaws.{EachEnds}
 use Rattle.wb_script.proofs.ArriveWords.{unreturned, some_bytes}
 use Rattle.wb_script.proofs.Reordered.{entire, reorders}
@@ -81,7 +81,7 @@ is_placed : (cut : Bool) (n : ℕ) (place line : InputLine) → Matches cut n pl
 is_placed cut n place line (inl e) = inl (subst (λ (l : InputLine). placed place l ≡ l) (sym e) (placed_same place.bytes place.ended))
 is_placed cut n place line (inr m) =
     let same : content (placed place line) ≡ content line = content_placed place line m.1.drawop m.1.said in
-    inr (m.1, record { free = free_placed cut n place line m.0 m.1; drawop = m.1.drawop; said = ap (λ (b : List ℕ). part_of (line_of b)) same ∙ m.1.said }, same)
+    inr (m.1, record { free = free_placed cut n place line m.0 m.1; drawop = m.1.drawop; said = ap (λ (b : List ℕ). part_of (script_line_of b)) same ∙ m.1.said }, same)
 
 abbrev ArePlaced : Bool → ℕ → List InputLine → List InputLine → Type 0
 ArePlaced cut n [] [] = Unit {0}
@@ -106,21 +106,21 @@ content_stays cut n line new (inr p) = p.2
 part_stays : (cut : Bool) (n : ℕ) (line new : InputLine) → IsPlaced cut n line new → part_at cut n new ≡ part_at cut n line
 part_stays cut n line new (inl e) = ap (part_at cut n) e
 part_stays cut n line new (inr p) =
-    part_here cut n new (Arrival p.1.drawop) p.1.free p.1.said ∙ ap Some (sym p.1.said ∙ ap (λ (b : List ℕ). part_of (line_of b)) p.2 ∙ p.0.said) ∙ sym (part_here cut n line (Arrival p.0.drawop) p.0.free p.0.said)
+    part_here cut n new (Arrival p.1.drawop) p.1.free p.1.said ∙ ap Some (sym p.1.said ∙ ap (λ (b : List ℕ). part_of (script_line_of b)) p.2 ∙ p.0.said) ∙ sym (part_here cut n line (Arrival p.0.drawop) p.0.free p.0.said)
 
-proceeds_same : (number : ℕ) (step : Step) (one other : State → Outcome) → ((t : State) → one t ≡ other t) → proceed number step one ≡ proceed number step other
-proceeds_same number (goes t text) one other same = ap (before text) (same t)
+proceeds_same : (number : ℕ) (step : RunStep) (one other : RunState → RunOutcome) → ((t : RunState) → one t ≡ other t) → follow_step number step one ≡ follow_step number step other
+proceeds_same number (moves_on t text) one other same = ap (printed_before text) (same t)
 proceeds_same number (refused t text e) one other same = refl
 
-continue_same : (f : Option RunFault) (number : ℕ) (s : State) (bytes : List ℕ) (one other : State → Outcome) → ((t : State) → one t ≡ other t) → continue f number s bytes one ≡ continue f number s bytes other
+continue_same : (f : Option RunFault) (number : ℕ) (s : RunState) (bytes : List ℕ) (one other : RunState → RunOutcome) → ((t : RunState) → one t ≡ other t) → continue f number s bytes one ≡ continue f number s bytes other
 continue_same (Some e) number s bytes one other same = refl
 continue_same None number s bytes one other same = proceeds_same number (step_of s s.waiting bytes) one other same
 
-outcome_stays : (cut : Bool) (n : ℕ) (s : State) (lines news : List InputLine) → ArePlaced cut n lines news → outcome_from cut n s lines ≡ outcome_from cut n s news
+outcome_stays : (cut : Bool) (n : ℕ) (s : RunState) (lines news : List InputLine) → ArePlaced cut n lines news → run_outcome_from cut n s lines ≡ run_outcome_from cut n s news
 outcome_stays cut n s [] [] p = refl
 outcome_stays cut n s (line ∷ lines) (new ∷ news) p =
-    ap₂ (λ (f : Option RunFault) (b : List ℕ). continue f (n + 1) s b (λ t. outcome_from cut (n + 1) t lines)) (sym (fault_stays cut n line new p.0)) (sym (content_stays cut n line new p.0))
-    ∙ continue_same (fault_at cut n new) (n + 1) s (content new) (λ t. outcome_from cut (n + 1) t lines) (λ t. outcome_from cut (n + 1) t news) (λ t. outcome_stays cut (n + 1) t lines news p.1)
+    ap₂ (λ (f : Option RunFault) (b : List ℕ). continue f (n + 1) s b (λ t. run_outcome_from cut (n + 1) t lines)) (sym (fault_stays cut n line new p.0)) (sym (content_stays cut n line new p.0))
+    ∙ continue_same (fault_at cut n new) (n + 1) s (content new) (λ t. run_outcome_from cut (n + 1) t lines) (λ t. run_outcome_from cut (n + 1) t news) (λ t. outcome_stays cut (n + 1) t lines news p.1)
 outcome_stays cut n s lines news p = absurd p
 
 other_stays : (cut : Bool) (n : ℕ) (line new : InputLine) → IsPlaced cut n line new → other_than (part_at cut n new) new ≡ other_than (part_at cut n line) line
@@ -239,5 +239,5 @@ workers_are_one_thread workers cut input o h =
         ends = ap (λ (l : List InputLine). map (λ line. line.ended) l) same ∙ ends_stay cut 0 lines r.to r.inside.others;
         whole = λ ends. subst (IsReorderedBy entire cut lines) (sym (same ∙ whole_placed cut 0 lines r.to r.inside.others ends (All-permutation IsEnded lines r.to r.moved (all_ended lines ends)))) r.inside;
       },
-      r.is ∙ outcome_stays cut 0 (start workers) r.to news p ∙ ap (outcome_from cut 0 (start workers)) (sym same),
+      r.is ∙ outcome_stays cut 0 (run_start workers) r.to news p ∙ ap (run_outcome_from cut 0 (run_start workers)) (sym same),
     )

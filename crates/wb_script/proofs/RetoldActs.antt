@@ -29,7 +29,7 @@ use Rattle.wb_member.specs.declared.calls.Call.{Call}
 use Rattle.wb_member.specs.declared.calls.Call.TheVariants as calls
 use Rattle.wb_member.specs.declared.calls.Found.TheVariants.{Nothing, Missing, MayAsk, WasAsked}
 use Rattle.wb_member.specs.declared.questions.Query.{Query}
-use Rattle.wb_commands.specs.Acts.{Act, does, fails, unless, tells, asked, called, act}
+use Rattle.wb_commands.specs.Acts.{Act, does, fails, unless, tells, question_act, called, act}
 use Rattle.wb_commands.specs.Answers.{answer_text}
 use Rattle.wb_commands.specs.SentLines.{call_text, done_text}
 use Rattle.wb_commands.specs.declared.command.Command.{Command}
@@ -82,8 +82,8 @@ module _ (host : Opened) (others : List KeeperCall) (a : CallsAlike host.is.call
   same_answer query =
       ap₂ (λ (marks : PageId → List MarkValue) (heard : List PageId). answer_by host.is.number marks heard host.is.held query) same_marks (a.pages host.is.number)
 
-  asks : (query : Query) → DoRetold (asked query host) (asked query other)
-  asks query = subst (λ (said : Told). DoRetold (asked query host) (tells other (answer_text said))) (same_answer query) (by (answer_text (answer_to query host))) where
+  asks : (query : Query) → DoRetold (question_act query host) (question_act query other)
+  asks query = subst (λ (said : Told). DoRetold (question_act query host) (tells other (answer_text said))) (same_answer query) (by (answer_text (answer_to query host))) where
     by : (text : Option (List ℕ)) → DoRetold (tells host text) (tells other text)
     by (Some text) = (stays, refl)
     by None = refl

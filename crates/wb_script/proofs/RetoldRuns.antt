@@ -14,9 +14,9 @@ use Rattle.wb_commands.specs.declared.fault.LineFault.{LineFault}
 use Rattle.wb_member.specs.Holding.{MemberValue, IsOpenAt}
 use Rattle.wb_member.specs.Members.{names_of}
 use Rattle.wb_member.specs.Opened.{Opened, present, board_of, batched}
-use Rattle.wb_script.specs.Hosts.{opened, taken, told, batch_text}
+use Rattle.wb_script.specs.Hosts.{script_host, taken, calls_as_said, batch_text}
 use Rattle.wb_script.specs.Laws.{BatchesAreToldAsSaid, GoOnAlike, at_host}
-use Rattle.wb_script.specs.Script.{State, MayBeTaken, Closing, Opens, Acts, Faulty, Part, Arrival, Nothing, End, part_in, Step, goes, refused, step_by, closing_step, part_step, Outcome, before, finish, Finishes, Proceeds, Continues, fault_at, IsOutcomeFrom}
+use Rattle.wb_script.specs.Script.{RunState, MayBeTaken, Closing, Opens, Acts, Faulty, Part, Arrival, Nothing, End, part_in, RunStep, moves_on, refused, step_by, closing_step, part_step, RunOutcome, printed_before, finish, Finishes, Proceeds, Continues, fault_at, IsOutcomeFrom}
 use Rattle.wb_script.specs.declared.fault.RunFault.{RunFault}
 use Rattle.wb_script.specs.declared.fault.RunFault.TheVariants as run_faults
 use Rattle.wb_script.proofs.ReorderedLines.{state}
@@ -29,17 +29,17 @@ MayBeRetold None None = Unit {0}
 MayBeRetold (Some one) (Some other) = HostsRetold one other
 MayBeRetold one other = ⊥
 
-record StatesRetold (s t : State) : Type 0 where
+record StatesRetold (s t : RunState) : Type 0 where
   pub hosts : MayBeRetold s.host t.host
   pub workers : s.workers ≡ t.workers
   pub waiting : s.waiting ≡ t.waiting
 
-abbrev StepsRetold : Step → Step → Type 0
-StepsRetold (goes s text) (goes t text') = StatesRetold s t × (text ≡ text')
+abbrev StepsRetold : RunStep → RunStep → Type 0
+StepsRetold (moves_on s text) (moves_on t text') = StatesRetold s t × (text ≡ text')
 StepsRetold (refused s text e) (refused t text' e') = StatesRetold s t × (text ≡ text') × (e ≡ e')
 StepsRetold one other = ⊥
 
-by_states : (P : State → State → Type 0) → ((k : Option ℕ) (one other : Option Opened) (waiting : List DrawopValue) → MayBeRetold one other → P (state k one waiting) (state k other waiting)) → (s t : State) → StatesRetold s t → P s t
+by_states : (P : RunState → RunState → Type 0) → ((k : Option ℕ) (one other : Option Opened) (waiting : List DrawopValue) → MayBeRetold one other → P (state k one waiting) (state k other waiting)) → (s t : RunState) → StatesRetold s t → P s t
 by_states P holds s t a =
     subst (λ (waiting : List DrawopValue). P s (state t.workers t.host waiting)) a.waiting
     (subst (λ (k : Option ℕ). P s (state k t.host s.waiting)) a.workers (holds s.workers s.host t.host s.waiting a.hosts))
@@ -70,9 +70,9 @@ module _ (k : Option ℕ) where
     at : (order : List DrawopValue) → HostsRetold (taken order one) (taken order (retold one h.calls))
     at [] = record { calls = h.calls; is = refl; alike = h.alike }
     at (d ∷ ds) = record {
-      calls = told (d ∷ ds) (retold one h.calls);
+      calls = calls_as_said (d ∷ ds) (retold one h.calls);
       is = refl;
-      alike = subst (λ (now : ℕ). CallsAlike (told (d ∷ ds) one) (Arrive now (sorted name_cmp (filter (holds (history_after one.is.cells one.is.held (d ∷ ds))) (names_of (d ∷ ds)))) ∷ h.calls)) (moment_alike one.is.calls h.calls h.alike)
+      alike = subst (λ (now : ℕ). CallsAlike (calls_as_said (d ∷ ds) one) (Arrive now (sorted name_cmp (filter (holds (history_after one.is.cells one.is.held (d ∷ ds))) (names_of (d ∷ ds)))) ∷ h.calls)) (moment_alike one.is.calls h.calls h.alike)
           (calls_after (Arrive (present one) (sorted name_cmp (filter (holds (history_after one.is.cells one.is.held (d ∷ ds))) (names_of (d ∷ ds))))) one.is.calls h.calls h.alike);
     }
 
@@ -83,7 +83,7 @@ module _ (k : Option ℕ) where
   fresh host = record { calls = host.is.calls; is = refl; alike = calls_same host.is.calls }
 
   closes : (one other : Option Opened) (text text' : List ℕ) (c : Closing) → MayBeRetold one other → text ≡ text' → StepsRetold (closing_step (state k one []) text c) (closing_step (state k other []) text' c)
-  closes None None text text' (Opens member cells workers seed) h same = (record { hosts = fresh (opened member cells seed); workers = refl; waiting = refl }, same)
+  closes None None text text' (Opens member cells workers seed) h same = (record { hosts = fresh (script_host member cells seed); workers = refl; waiting = refl }, same)
   closes None None text text' (Acts line) h same = (stays None None tt, same, refl)
   closes None None text text' (Faulty e) h same = (stays None None tt, same, refl)
   closes (Some one) (Some other) text text' (Opens member cells workers seed) h same = (stays (Some one) (Some other) h, same, refl)
@@ -112,23 +112,23 @@ module _ (k : Option ℕ) where
 
 -- ---- all lines
 
-finishes : (ending : Result ℕ RunFault) (o : Outcome) (s t : State) → StatesRetold s t → Finishes s ending o → Finishes t ending o
-finishes ending o = by_states (λ (s t : State). Finishes s ending o → Finishes t ending o) (λ k one other waiting h f. (f.0, f.1, f.2 ∙ ends k one other waiting f.0 ending h))
+finishes : (ending : Result ℕ RunFault) (o : RunOutcome) (s t : RunState) → StatesRetold s t → Finishes s ending o → Finishes t ending o
+finishes ending o = by_states (λ (s t : RunState). Finishes s ending o → Finishes t ending o) (λ k one other waiting h f. (f.0, f.1, f.2 ∙ ends k one other waiting f.0 ending h))
 
-proceeds : (number : ℕ) (Rest : State → Outcome → Type 0) (o : Outcome) (one other : Step) → StepsRetold one other → ((s t : State) (next : Outcome) → StatesRetold s t → Rest s next → Rest t next) → Proceeds number Rest o one → Proceeds number Rest o other
-proceeds number Rest o (goes s text) (goes t text') a on p = (p.0, on s t p.0 a.0 p.1, p.2 ∙ ap (λ (x : List ℕ). before x p.0) a.1)
+proceeds : (number : ℕ) (Rest : RunState → RunOutcome → Type 0) (o : RunOutcome) (one other : RunStep) → StepsRetold one other → ((s t : RunState) (next : RunOutcome) → StatesRetold s t → Rest s next → Rest t next) → Proceeds number Rest o one → Proceeds number Rest o other
+proceeds number Rest o (moves_on s text) (moves_on t text') a on p = (p.0, on s t p.0 a.0 p.1, p.2 ∙ ap (λ (x : List ℕ). printed_before x p.0) a.1)
 proceeds number Rest o (refused s text e) (refused t text' e') a on p =
-    (p.0, subst (λ (f : LineFault). Finishes t (Err (run_faults.Line number f)) p.0) a.2 (finishes (Err (run_faults.Line number e)) p.0 s t a.0 p.1), p.2 ∙ ap (λ (x : List ℕ). before x p.0) a.1)
-proceeds number Rest o (goes s text) (refused t text' e) a on p = absurd a
-proceeds number Rest o (refused s text e) (goes t text') a on p = absurd a
+    (p.0, subst (λ (f : LineFault). Finishes t (Err (run_faults.Line number f)) p.0) a.2 (finishes (Err (run_faults.Line number e)) p.0 s t a.0 p.1), p.2 ∙ ap (λ (x : List ℕ). printed_before x p.0) a.1)
+proceeds number Rest o (moves_on s text) (refused t text' e) a on p = absurd a
+proceeds number Rest o (refused s text e) (moves_on t text') a on p = absurd a
 
-continues : (fault : Option RunFault) (number : ℕ) (line : InputLine) (Rest : State → Outcome → Type 0) (o : Outcome) → ((s t : State) (next : Outcome) → StatesRetold s t → Rest s next → Rest t next)
-    → (s t : State) → StatesRetold s t → Continues fault number s (content line) Rest o → Continues fault number t (content line) Rest o
-continues None number line Rest o on = by_states (λ (s t : State). Continues None number s (content line) Rest o → Continues None number t (content line) Rest o)
+continues : (fault : Option RunFault) (number : ℕ) (line : InputLine) (Rest : RunState → RunOutcome → Type 0) (o : RunOutcome) → ((s t : RunState) (next : RunOutcome) → StatesRetold s t → Rest s next → Rest t next)
+    → (s t : RunState) → StatesRetold s t → Continues fault number s (content line) Rest o → Continues fault number t (content line) Rest o
+continues None number line Rest o on = by_states (λ (s t : RunState). Continues None number s (content line) Rest o → Continues None number t (content line) Rest o)
     (λ k one other waiting h c. (c.0, c.1, proceeds number Rest o (part_step (state k one waiting) c.0 (part_in line)) (part_step (state k other waiting) c.0 (part_in line)) (part_done k one other waiting c.0 (part_in line) h) on c.2))
 continues (Some e) number line Rest o on = finishes (Err e) o
 
-outcomes : (cut : Bool) (n : ℕ) (lines : List InputLine) (s t : State) (o : Outcome) → StatesRetold s t → IsOutcomeFrom cut n s lines o → IsOutcomeFrom cut n t lines o
+outcomes : (cut : Bool) (n : ℕ) (lines : List InputLine) (s t : RunState) (o : RunOutcome) → StatesRetold s t → IsOutcomeFrom cut n s lines o → IsOutcomeFrom cut n t lines o
 outcomes cut n [] s t o a f = finishes (cond cut (Err run_faults.Read) (Ok n)) o s t a f
 outcomes cut n (line ∷ lines) s t o a c =
     continues (fault_at cut n line) (n + 1) line (λ u next. IsOutcomeFrom cut (n + 1) u lines next) o (λ u v next b f. outcomes cut (n + 1) lines u v next b f) s t a c
@@ -150,7 +150,7 @@ batches_are_told_as_said host d ds (e ∷ es) moved =
     record {
       keeper = λ v. opens_alike host (e ∷ es) v (filter p (names_of (d ∷ ds))) (sorted name_cmp (filter p (names_of (e ∷ es)))) names.0 names.1;
       outcomes = go_on (batched (d ∷ ds) (e ∷ es) host) (taken (e ∷ es) host) (record {
-        calls = told (e ∷ es) host;
+        calls = calls_as_said (e ∷ es) host;
         is = refl;
         alike = arrived_alike (present host) (filter p (names_of (d ∷ ds))) (sorted name_cmp (filter p (names_of (e ∷ es)))) host.is.calls names.0 names.1;
       });

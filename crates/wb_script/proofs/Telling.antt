@@ -21,7 +21,7 @@ use Rattle.wb_keeper.proofs.FreeArrivals.{comes, timers_alike}
 use Rattle.wb_member.specs.Holding.{MemberValue, IsOpenAt}
 use Rattle.wb_member.specs.Members.{names_of}
 use Rattle.wb_member.specs.Opened.{Opened, present, accepted}
-use Rattle.wb_script.specs.Hosts.{host_after, taken}
+use Rattle.wb_script.specs.Hosts.{host_after_batch, taken}
 use Rattle.wb_script.proofs.Members.{Among, same_ascending}
 
 -- ---- names
@@ -109,7 +109,7 @@ pub opens_alike : (host : Opened) (order : List DrawopValue) (v : MemberValue) (
 opens_alike host order v names other up down = (told_others host order v names other up down, told_others host order v other names down up)
 
 -- that learned the names as they came
-pub settles : (host : Opened) (batch order : List DrawopValue) (v : MemberValue) → IsPermutation batch order → IsOpenAt v (host_after host batch order) → IsOpenAt v (taken order host)
+pub settles : (host : Opened) (batch order : List DrawopValue) (v : MemberValue) → IsPermutation batch order → IsOpenAt v (host_after_batch host batch order) → IsOpenAt v (taken order host)
 settles host [] [] v moved at = record { board = at.board; keeper = at.keeper; words = at.words }
 settles host [] (e ∷ es) v moved at = let long = length_permutation [] (e ∷ es) moved in absurd (omega (arith, long))
 settles host (d ∷ ds) [] v moved at = let long = length_permutation (d ∷ ds) [] moved in absurd (omega (arith, long))

@@ -2,7 +2,7 @@
 use Rattle.std.specs.Prelude.{◌≡◌, ℕ, List, Bool, Option}
 use Rattle.wb_script.specs.Laws.{NoneClash, HasCells}
 use Rattle.wb_lines.specs.Input.{input_lines}
-use Rattle.wb_script.specs.Script.{Outcome, outcome, IsOutcome}
+use Rattle.wb_script.specs.Script.{RunOutcome, run_outcome, IsOutcome}
 use Rattle.wb_script.specs.Shows.{arrivals_of, cells_of}
 
 -- No two arrivals of an input clash, and the board that it opens has a cell for each of their names.
@@ -12,8 +12,8 @@ pub record HoldsAll (input : List ℕ) : Type 0 where
 
 -- Then whatever the number of workers, and in whatever order they take each batch, the outcome is that of one thread.
 abbrev pub OrdersAreFree : Type 0
-OrdersAreFree = (workers : Option ℕ) (cut : Bool) (input : List ℕ) (o : Outcome) → HoldsAll input → IsOutcome workers cut input o → o ≡ outcome workers cut input
+OrdersAreFree = (workers : Option ℕ) (cut : Bool) (input : List ℕ) (o : RunOutcome) → HoldsAll input → IsOutcome workers cut input o → o ≡ run_outcome workers cut input
 
 -- So any two runs of it, each by its own number of workers, print the same and end the same.
 abbrev pub WorkersAreFree : Type 0
-WorkersAreFree = (workers others : Option ℕ) (cut : Bool) (input : List ℕ) (o p : Outcome) → HoldsAll input → IsOutcome workers cut input o → IsOutcome others cut input p → o ≡ p
+WorkersAreFree = (workers others : Option ℕ) (cut : Bool) (input : List ℕ) (o p : RunOutcome) → HoldsAll input → IsOutcome workers cut input o → IsOutcome others cut input p → o ≡ p

@@ -15,8 +15,8 @@ use Rattle.wb_commands.specs.Answers.{batch_line}
 abbrev pub script_constants : Tuning
 script_constants = record { c1 = 2; c2 = 2; d1 = 1; d2 = 1 }
 
-abbrev pub opened : ℕ → ℕ → ℕ → Opened
-opened member cells seed = opened_with script_constants member cells seed
+abbrev pub script_host : ℕ → ℕ → ℕ → Opened
+script_host member cells seed = opened_with script_constants member cells seed
 
 -- ---- the end of a batch, which is taken in some order
 
@@ -26,8 +26,8 @@ abbrev pub calls_after : Opened → List DrawopValue → List DrawopValue → Li
 calls_after host [] order = host.is.calls
 calls_after host (d ∷ ds) order = (batched (d ∷ ds) order host).is.calls
 
-abbrev pub host_after : Opened → List DrawopValue → List DrawopValue → Opened
-host_after host batch order = record { is = record (batched batch order host).is { calls = calls_after host batch order }; random = host.random }
+abbrev pub host_after_batch : Opened → List DrawopValue → List DrawopValue → Opened
+host_after_batch host batch order = record { is = record (batched batch order host).is { calls = calls_after host batch order }; random = host.random }
 
 -- A keeper holds the same in whatever order it learned names, and however often. So those of a batch are written ascending, each
 -- once: hosts that took a batch in two orders, and hold the same names then, have the same calls.
@@ -35,13 +35,13 @@ abbrev pub ascending : List KeeperCall → List KeeperCall
 ascending (Arrive now names ∷ calls) = Arrive now (sorted name_cmp names) ∷ calls
 ascending calls = calls
 
-abbrev pub told : List DrawopValue → Opened → List KeeperCall
-told [] host = host.is.calls
-told (d ∷ ds) host = ascending (host_after host (d ∷ ds) (d ∷ ds)).is.calls
+abbrev pub calls_as_said : List DrawopValue → Opened → List KeeperCall
+calls_as_said [] host = host.is.calls
+calls_as_said (d ∷ ds) host = ascending (host_after_batch host (d ∷ ds) (d ∷ ds)).is.calls
 
 -- The host once a batch was taken in this order: nothing in it says in which order the batch came.
 abbrev pub taken : List DrawopValue → Opened → Opened
-taken order host = record { is = record (host_after host order order).is { calls = told order host }; random = host.random }
+taken order host = record { is = record (host_after_batch host order order).is { calls = calls_as_said order host }; random = host.random }
 
 -- What is printed. A batch with no arrivals prints nothing.
 abbrev pub batch_text : Held → List DrawopValue → List ℕ

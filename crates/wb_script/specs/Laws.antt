@@ -12,7 +12,7 @@ use Rattle.wb_member.specs.declared.questions.Query.{Query}
 use Rattle.wb_lines.specs.Input.{InputLine}
 use Rattle.wb_member.specs.Holding.{MemberValue, IsOpenAt}
 use Rattle.wb_script.specs.Hosts.{taken}
-use Rattle.wb_script.specs.Script.{State, Outcome, IsOutcomeFrom}
+use Rattle.wb_script.specs.Script.{RunState, RunOutcome, IsOutcomeFrom}
 
 -- what a board can hold
 pub record IsBoardHistory (history : List DrawopValue) : Type 0 where
@@ -49,12 +49,12 @@ PrintsAreFree = (number : ℕ) (marks : PageId → List MarkValue) (heard : List
 -- ---- what a batch tells the keeper
 
 -- at a host, and no arrivals wait
-abbrev pub at_host : Option ℕ → Opened → State
+abbrev pub at_host : Option ℕ → Opened → RunState
 at_host workers host = record { host = Some host; workers = workers; waiting = [] }
 
 -- Whatever lines follow, they have the same outcomes from both.
 abbrev pub GoOnAlike : Opened → Opened → Type 0
-GoOnAlike one other = (workers : Option ℕ) (cut : Bool) (n : ℕ) (lines : List InputLine) (o : Outcome) → IsOutcomeFrom cut n (at_host workers one) lines o ↔ IsOutcomeFrom cut n (at_host workers other) lines o
+GoOnAlike one other = (workers : Option ℕ) (cut : Bool) (n : ℕ) (lines : List InputLine) (o : RunOutcome) → IsOutcomeFrom cut n (at_host workers one) lines o ↔ IsOutcomeFrom cut n (at_host workers other) lines o
 
 -- The keeper of the one holds what that of the other does, and both print the same.
 pub record IsSameTold (one other : Opened) : Type 0 where

@@ -2,7 +2,7 @@
 use Rattle.std.specs.Prelude.{◌≡◌, ℕ, ◌+◌, ◌≤◌, List, [], ◌∷◌, ◌++◌, map, Bool, Option, Some, None, IsPermutation}
 use Rattle.wb_script.specs.declared.fault.RunFault.{RunFault}
 use Rattle.wb_lines.specs.Input.{InputLine, input_lines, content}
-use Rattle.wb_script.specs.Script.{Part, Arrival, Nothing, part_in, Outcome, outcome, fault_at, IsOutcome}
+use Rattle.wb_script.specs.Script.{Part, Arrival, Nothing, part_in, RunOutcome, run_outcome, fault_at, IsOutcome}
 use Rattle.wb_script.specs.ScriptLaws.{EachEnds}
 
 -- What a line is to its batch: nothing, if it passes a limit or is cut off.
@@ -51,8 +51,8 @@ pub record IsReorderedBy {X : Type 0} (form : InputLine → X) (cut : Bool) (lin
   pub others : others_of cut 0 reordered ≡ others_of cut 0 lines
   pub batches : AreRearranged (batches_of form cut 0 lines) (batches_of form cut 0 reordered)
 
--- The contents of arrivals change places, and line feeds stay where they are. If each line has its line feed, whole lines change places, with
--- their carriage returns.
+-- The contents of arrivals change places, and line feeds stay. If each line ends with a line feed, whole lines change places: their carriage
+-- returns go with them.
 pub record IsReordered (cut : Bool) (input other : List ℕ) : Type 0 where
   pub contents : IsReorderedBy content cut (input_lines input) (input_lines other)
   pub ends : map (λ line. line.ended) (input_lines other) ≡ map (λ line. line.ended) (input_lines input)
@@ -60,10 +60,10 @@ pub record IsReordered (cut : Bool) (input other : List ℕ) : Type 0 where
 
 -- Each outcome, by any number of workers, is what one thread prints for the script with its arrivals reordered inside their batches.
 abbrev pub WorkersAreOneThread : Type 0
-WorkersAreOneThread = (workers : Option ℕ) (cut : Bool) (input : List ℕ) (o : Outcome) → IsOutcome workers cut input o
-    → (other : List ℕ) × IsReordered cut input other × (o ≡ outcome workers cut other)
+WorkersAreOneThread = (workers : Option ℕ) (cut : Bool) (input : List ℕ) (o : RunOutcome) → IsOutcome workers cut input o
+    → (other : List ℕ) × IsReordered cut input other × (o ≡ run_outcome workers cut other)
 
 -- Whatever one thread prints for a reordered script, two workers or more may print for the script.
 abbrev pub EachReorderingIsOutcome : Type 0
 EachReorderingIsOutcome = (workers : ℕ) (cut : Bool) (input other : List ℕ) → 2 ≤ workers → IsReorderedBy content cut (input_lines input) (input_lines other)
-    → IsOutcome (Some workers) cut input (outcome (Some workers) cut other)
+    → IsOutcome (Some workers) cut input (run_outcome (Some workers) cut other)

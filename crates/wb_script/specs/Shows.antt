@@ -10,10 +10,10 @@ use Rattle.wb_member.specs.declared.questions.Query.TheVariants.{Canvas}
 use Rattle.wb_script.specs.declared.running.Summary.{Summary}
 use Rattle.wb_lines.specs.Ahead.{IsLine}
 use Rattle.wb_script.specs.Laws.{NoneClash, HasCells}
-use Rattle.wb_commands.specs.Parsing.{line_of}
+use Rattle.wb_commands.specs.Parsing.{script_line_of}
 use Rattle.wb_member.specs.Queries.{view_of}
 use Rattle.wb_lines.specs.Input.{InputLine, input_lines}
-use Rattle.wb_script.specs.Script.{Opens, Part, Arrival, End, part_in, prints, outcome}
+use Rattle.wb_script.specs.Script.{Opens, Part, Arrival, End, part_in, prints, run_outcome}
 use Rattle.wb_script.specs.ScriptLaws.{EachEnds}
 
 -- the drawop that a line hands in
@@ -46,14 +46,14 @@ canvas_after lines page width height = canvas_text (view_of (history_after (cell
 
 -- A script that ends by showing a page, and is run to its end, ends with the canvas of all its arrivals, of whatever batches.
 abbrev pub ShowsArrivals : Type 0
-ShowsArrivals = (workers : Option ℕ) (front question text : List ℕ) (page : PageId) (width height : ℕ) (summary : Summary) → EachEnds (input_lines front) → IsLine question → line_of (strip_carriage_return question) ≡ Ok (Question (Canvas page width height))
-    → outcome workers false (front ++ (question ++ 10 ∷ [])) ≡ prints text (Ok summary) → EndsWith text (canvas_after front page width height)
+ShowsArrivals = (workers : Option ℕ) (front question text : List ℕ) (page : PageId) (width height : ℕ) (summary : Summary) → EachEnds (input_lines front) → IsLine question → script_line_of (strip_carriage_return question) ≡ Ok (Question (Canvas page width height))
+    → run_outcome workers false (front ++ (question ++ 10 ∷ [])) ≡ prints text (Ok summary) → EndsWith text (canvas_after front page width height)
 
 -- Two such scripts whose arrivals are rearrangements of one another and do not clash, with cells for all names, end with the same canvas.
 abbrev pub ShowsAreFree : Type 0
 ShowsAreFree = (workers : Option ℕ) (front other question text again : List ℕ) (page : PageId) (width height : ℕ) (summary summary' : Summary) → EachEnds (input_lines front) → EachEnds (input_lines other)
-    → IsLine question → line_of (strip_carriage_return question) ≡ Ok (Question (Canvas page width height))
-    → outcome workers false (front ++ (question ++ 10 ∷ [])) ≡ prints text (Ok summary) → outcome workers false (other ++ (question ++ 10 ∷ [])) ≡ prints again (Ok summary')
+    → IsLine question → script_line_of (strip_carriage_return question) ≡ Ok (Question (Canvas page width height))
+    → run_outcome workers false (front ++ (question ++ 10 ∷ [])) ≡ prints text (Ok summary) → run_outcome workers false (other ++ (question ++ 10 ∷ [])) ≡ prints again (Ok summary')
     → IsPermutation (arrivals_of (input_lines front)) (arrivals_of (input_lines other)) → NoneClash (arrivals_of (input_lines front))
     → HasCells (cells_of (input_lines front)) (arrivals_of (input_lines front)) → HasCells (cells_of (input_lines other)) (arrivals_of (input_lines front))
     → EndsWith text (canvas_after front page width height) × EndsWith again (canvas_after front page width height)

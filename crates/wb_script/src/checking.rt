@@ -1,7 +1,7 @@
 //! Whether each line of a script parses, and nothing is run.
 ghost use Rattle.std.specs.Prelude.{◌≡◌, ◌≢◌, ◌≤◌, List, ℕ, true, length, IfOk, Err, Some};
 ghost use Rattle.wb_lines.specs.Driving.{Gave};
-ghost use Rattle.wb_script.specs.Checking.{Checks, CountsLines, IsCounted, fault_of};
+ghost use Rattle.wb_script.specs.Checking.{Checks, CountsLines, IsCounted, check_fault};
 ghost use Rattle.wb_script.specs.Script.{most_lines};
 
 use crate::fault::RunFault;
@@ -72,7 +72,7 @@ impl Handler for Checker {
 /// Why a check stops, by why its driver does.
 fn fault_of(fault: DriveFault<LineFault>) -> RunFault
     requires { IsCounted most_lines fault }
-    ensures { result ≡ fault_of fault }
+    ensures { result ≡ check_fault fault }
 {
     match fault {
         DriveFault::Line(number, fault) => RunFault::Line(number as u32, fault),

@@ -6,9 +6,9 @@ ghost use Rattle.wb_lines.specs.Groups.{IsOutcome, group_rules};
 ghost use Rattle.wb_lines.specs.Driving.{Gave};
 ghost use Rattle.wb_lines.specs.Progress.{reached};
 ghost use Rattle.wb_lines.specs.Steps.{DrivesAll, MeetsOne};
-ghost use Rattle.wb_script.specs.Script.{State, most_lines};
+ghost use Rattle.wb_script.specs.Script.{RunState, most_lines};
 ghost use Rattle.wb_script.specs.Inside.Parts.{by_batches};
-ghost use Rattle.wb_script.specs.Inside.Steps.{IsAt, may_take};
+ghost use Rattle.wb_script.specs.Inside.Steps.{IsRunAt, may_take};
 
 use crate::host::Host;
 use crate::said::Said;
@@ -30,7 +30,7 @@ fn take_groups<T: Threads + Wait + Sync, R: Source, W: Sink, G: Gate + Sync>(
     sink: &mut W,
 ) -> Result<u64, DriveFault<LineFault>>
     requires start { progress.old.lines.seen ≡ seens.Nothing }
-    ensures all { DrivesAll by_batches may_take (IsAt host.old) (IsAt host.new)
+    ensures all { DrivesAll by_batches may_take (IsRunAt host.old) (IsRunAt host.new)
         (reached R.Source W.Sink progress.old source.old sink.old)
         (reached R.Source W.Sink progress.new source.new sink.new) result }
     ensures few { IfOk result (λ lines. lines ≤ progress.old.lines.most) }
@@ -61,9 +61,9 @@ pub fn take_lines<T: Threads + Wait + Sync, R: Source, W: Sink, G: Gate + Sync>(
     requires { most ≤ most_lines }
     ensures lines { (input : List ℕ) × (written : List ℕ) ×
         Gave (R.left source.old) (R.left source.new) (R.has_failed source.new) input × Appends
-        (W.taken sink.old) (W.taken sink.new) written × ((s : State) → IsAt host.old s → MeetsOne
+        (W.taken sink.old) (W.taken sink.new) written × ((s : RunState) → IsRunAt host.old s → MeetsOne
         (IsOutcome (group_rules by_batches may_take most) (R.has_failed source.new) s input)
-        (IsAt host.new) written result) }
+        (IsRunAt host.new) written result) }
     ensures few { IfOk result (λ lines. lines ≤ most) }
     ensures read { result ≡ Err DriveFault.Read → R.has_failed source.new ≡ true }
     ensures write { result ≡ Err DriveFault.Write → W.has_failed sink.new ≡ true }

@@ -8,10 +8,10 @@ ghost use Rattle.wb_lines.specs.Moments.{Reads};
 ghost use Rattle.wb_lines.specs.Progress.{reached};
 ghost use Rattle.wb_lines.specs.Steps.{DoesGroup};
 ghost use Rattle.wb_board.specs.Counts.{IsCellCount, IsWorkerCount};
-ghost use Rattle.wb_commands.specs.Parsing.{IsWithin};
-ghost use Rattle.wb_script.specs.Script.{State, IsAlone, Acts, Arrival, End, part_in, part_of, held_count, part_step, said_step};
-ghost use Rattle.wb_script.specs.Inside.Parts.{by_batches, EndsBatchAt, Says};
-ghost use Rattle.wb_script.specs.Inside.Steps.{IsAt, MayDoStep, may_take, faulted};
+ghost use Rattle.wb_commands.specs.Parsing.{IsScriptWithin};
+ghost use Rattle.wb_script.specs.Script.{RunState, IsAlone, Acts, Arrival, End, part_in, part_of, held_count, part_step, said_step};
+ghost use Rattle.wb_script.specs.Inside.Parts.{by_batches, EndsBatchAt, LineSays};
+ghost use Rattle.wb_script.specs.Inside.Steps.{IsRunAt, MayDoStep, may_take, faulted};
 
 use crate::part::Part;
 use crate::said::Said;
@@ -76,7 +76,7 @@ impl<'a, T, G> Host<'a, T, G> {
 
     /// How many drawops are held.
     pub fn held(&self) -> u32
-        ensures { (s : State) → IsAt self.now s → result ≡ held_count s }
+        ensures { (s : RunState) → IsRunAt self.now s → result ≡ held_count s }
     {
         match &self.member {
             None => 0,
@@ -101,7 +101,7 @@ impl<'a, T, G> Host<'a, T, G> {
     ) -> Result<(), Stop<LineFault>>
         requires { IsCellCount cells }
         ensures refused { self.new.refused ≡ self.old.refused }
-        ensures text { (s : State) → IsAt self.old s → MayDoStep s self.new [] result
+        ensures text { (s : RunState) → IsRunAt self.old s → MayDoStep s self.new [] result
             (λ order. said_step s order (Ok (Command.Board member cells workers seed))) }
     {
         if self.member.is_some() {
@@ -119,10 +119,10 @@ impl<'a, T, G> Host<'a, T, G> {
         command: &Command,
         output: &mut Output,
     ) -> Result<(), Stop<LineFault>>
-        requires { IsWithin command.now }
+        requires { IsScriptWithin command.now }
         ensures refused { self.new.refused ≡ self.old.refused }
         ensures text { (written : List ℕ) × (output.new ≡ output.old ++ written) ×
-            ((s : State) → IsAt self.old s → MayDoStep s self.new written result
+            ((s : RunState) → IsRunAt self.old s → MayDoStep s self.new written result
             (λ order. part_step s order (End (Acts command.now)))) }
     {
         match &mut self.member {
@@ -138,11 +138,11 @@ impl<'a, T, G> Host<'a, T, G> {
         command: &Command,
         output: &mut Output,
     ) -> Result<(), Stop<LineFault>>
-        requires command { IsWithin command.now }
+        requires command { IsScriptWithin command.now }
         requires other { EndsBatchAt (part_of (Ok command.now)) }
         ensures refused { self.new.refused ≡ self.old.refused }
         ensures text { (written : List ℕ) × (output.new ≡ output.old ++ written) ×
-            ((s : State) → IsAt self.old s →
+            ((s : RunState) → IsRunAt self.old s →
             MayDoStep s self.new written result (λ order. said_step s order (Ok command.now))) }
     {
         match command {
@@ -168,13 +168,13 @@ impl<T: Threads + Wait + Sync, G: Gate + Sync> Host<'_, T, G> {
         source: &mut R,
         sink: &mut W,
     ) -> Result<(), Stop<LineFault>>
-        requires said { Says progress.old.lines.line said }
+        requires said { LineSays progress.old.lines.line said }
         requires taken { progress.old.lines.seen ≡ seens.Nothing }
         ensures refused { result ≢ Err stops.Memory → self.new.refused ≡ self.old.refused }
         ensures text { (printed : List ℕ) × (joined : List InputLine) ×
             Reads by_batches (reached R.Source W.Sink progress.old source.old sink.old)
             (reached R.Source W.Sink progress.new source.new sink.new) printed joined ×
-            ((s : State) → IsAt self.old s → DoesGroup by_batches (IsAt self.new) printed
+            ((s : RunState) → IsRunAt self.old s → DoesGroup by_batches (IsRunAt self.new) printed
             (may_take s progress.old.lines.done (whole progress.old.lines.line))
             progress.old.lines.line joined progress.new.lines result) }
     {
@@ -202,7 +202,7 @@ impl<T: Threads + Wait + Sync, G: Gate + Sync> Host<'_, T, G> {
         ensures text { (printed : List ℕ) × (joined : List InputLine) ×
             Reads by_batches (reached R.Source W.Sink progress.old source.old sink.old)
             (reached R.Source W.Sink progress.new source.new sink.new) printed joined ×
-            ((s : State) → IsAt self.old s → DoesGroup by_batches (IsAt self.new) printed
+            ((s : RunState) → IsRunAt self.old s → DoesGroup by_batches (IsRunAt self.new) printed
             (may_take s progress.old.lines.done (whole progress.old.lines.line))
             progress.old.lines.line joined progress.new.lines result) }
     {

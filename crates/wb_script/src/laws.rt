@@ -6,7 +6,7 @@ ghost use Rattle.wb_member.specs.Queries.{ViewOfPage, OnlyView};
 ghost use Rattle.wb_script.specs.Laws.{AnswersAreFree, BatchesAreToldAsSaid, BatchesAreOne, ArrivalsAreFree, PrintsAreFree};
 ghost use Rattle.wb_script.specs.Reordering.{WorkersAreOneThread, EachReorderingIsOutcome};
 ghost use Rattle.wb_script.specs.Shows.{ShowsArrivals, ShowsAreFree};
-ghost use Rattle.wb_script.specs.ScriptLaws.{RefusedStays, PrintedStays, SkippedPrintsNothing, CountsAddUp, HeldStays, OneThreadIsOutcome, OneWorkerIsOneThread, OneThreadIsFree};
+ghost use Rattle.wb_script.specs.ScriptLaws.{RefusedScriptStays, PrintedStays, SkippedPrintsNothing, CountsAddUp, HeldStays, OneThreadIsOutcome, OneWorkerIsOneThread, OneThreadIsFree};
 ghost use Rattle.wb_script.specs.FreeWorkers.{OrdersAreFree, WorkersAreFree};
 
 /// What is printed is the view of a page, its missing ranges, its report, and the list of pages.
@@ -59,7 +59,7 @@ pub fn shows_are_free()
 /// What whole lines printed stays, whatever follows them: nothing of a refused script changes, and
 /// if no arrival waits, each longer script's text begins with theirs.
 pub fn printed_text_stays()
-    ensures refused { RefusedStays }
+    ensures refused { RefusedScriptStays }
     ensures printed { PrintedStays }
 {}
 

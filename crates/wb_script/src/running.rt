@@ -5,7 +5,7 @@ ghost use Rattle.std.specs.Io.KnownBytes.{Appends};
 ghost use Rattle.wb_lines.specs.Driving.{Gave};
 ghost use Rattle.wb_script.specs.Checking.{IsCounted};
 ghost use Rattle.wb_script.specs.Inside.Ending.{ended_by, ended_with};
-ghost use Rattle.wb_script.specs.Runs.{Runs};
+ghost use Rattle.wb_script.specs.Runs.{RunsScript};
 ghost use Rattle.wb_script.specs.Script.{most_lines};
 
 use crate::driving::take_lines;
@@ -84,7 +84,7 @@ pub fn run<T: Threads + Wait + Sync, R: Source, W: Sink, G: Gate + Sync>(
     ensures script { (input : List ℕ) × (written : List ℕ)
         × Gave (R.left source.old) (R.left source.new) (R.has_failed source.new) input
         × Appends (W.taken sink.old) (W.taken sink.new) written
-        × Runs workers (R.has_failed source.new) input written result }
+        × RunsScript workers (R.has_failed source.new) input written result }
     ensures read { result ≡ Err RunFault.Read → R.has_failed source.new ≡ true }
     ensures write { result ≡ Err RunFault.Write → W.has_failed sink.new ≡ true }
 {

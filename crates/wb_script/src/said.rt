@@ -18,9 +18,9 @@ pub struct Said {
 
 impl Saying for Said {
     ghost use Rattle.wb_script.specs.Script.{most_lines};
-    ghost use Rattle.wb_script.specs.Inside.Parts.{Says, by_batches};
+    ghost use Rattle.wb_script.specs.Inside.Parts.{LineSays, by_batches};
 
-    ghost says = { Says };
+    ghost says = { LineSays };
 
     ghost by = { by_batches };
 

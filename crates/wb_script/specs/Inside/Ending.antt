@@ -7,8 +7,8 @@ use Rattle.wb_commands.specs.declared.fault.LineFault.{LineFault}
 use Rattle.wb_script.specs.declared.fault.RunFault.{RunFault}
 use Rattle.wb_script.specs.declared.fault.RunFault.TheVariants as run_faults
 use Rattle.wb_script.specs.declared.running.Summary.{Summary}
-use Rattle.wb_script.specs.Checking.{answer_of}
-use Rattle.wb_script.specs.Script.{State, Outcome, prints, answer}
+use Rattle.wb_script.specs.Checking.{check_answer}
+use Rattle.wb_script.specs.Script.{RunState, RunOutcome, prints, run_answer}
 
 -- why a run stops, if a thread may have been refused
 abbrev pub ended_by : Bool → DriveFault LineFault → RunFault
@@ -24,5 +24,5 @@ ended_with held refused (Ok lines) = Ok (record { lines = lines; held = held })
 ended_with held refused (Err e) = Err (ended_by refused e)
 
 -- the outcome of a script, of that of its driver and the state at its end
-abbrev pub shown : LinesOutcome LineFault → State → Outcome
-shown (writes text end) t = prints text (answer t (answer_of end))
+abbrev pub shown : LinesOutcome LineFault → RunState → RunOutcome
+shown (writes text end) t = prints text (run_answer t (check_answer end))

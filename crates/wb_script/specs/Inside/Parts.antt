@@ -5,7 +5,7 @@ use Rattle.wb_script.specs.declared.part.Part.TheVariants as parts
 use Rattle.wb_script.specs.declared.said.Said.{Said}
 use Rattle.wb_lines.specs.Input.{InputLine, content}
 use Rattle.wb_lines.specs.Items.{Grouping}
-use Rattle.wb_commands.specs.Parsing.{line_of, IsWithin}
+use Rattle.wb_commands.specs.Parsing.{script_line_of, IsScriptWithin}
 use Rattle.wb_script.specs.Script.{Part, Arrival, Nothing, End, part_in}
 
 -- It is neither skipped nor an arrival.
@@ -36,5 +36,5 @@ abbrev pub by_batches : Grouping
 by_batches = record { gathers = λ line. is_arrival (part_in line); joins = λ line. joins_batch (part_in line) }
 
 -- A line says this, with its numbers in range.
-abbrev pub Says : InputLine → Said → Type 0
-Says line said = (said.said ≡ line_of (content line)) × IfOk said.said IsWithin
+abbrev pub LineSays : InputLine → Said → Type 0
+LineSays line said = (said.said ≡ script_line_of (content line)) × IfOk said.said IsScriptWithin

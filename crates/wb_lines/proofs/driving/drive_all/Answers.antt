@@ -2,7 +2,7 @@ use Rattle.std.proofs.Common.{ℕ, None, Ok, Err, ap, ◌∙◌}
 use Rattle.std.proofs.lemmas.Result.{err_from_is_err_and}
 use Rattle.wb_lines.specs.Items.{alone}
 use Rattle.wb_lines.specs.Groups.{only_step}
-use Rattle.wb_lines.specs.Steps.{fault_of}
+use Rattle.wb_lines.specs.Steps.{driver_fault}
 use Rattle.wb_lines.proofs.LoneLines.{says_any, total}
 use Rattle.wb_lines.proofs.Turns.{drive_starts, drive_goes, drive_stops, drive_ends}
 use Rattle.wb_lines.proofs.driving.drive_all.Goals as goal
@@ -20,7 +20,7 @@ returns-in_err-first-clause-all g c =
 pub returns-in-Err-clause-all : goal.returns-in-Err-clause-all
 returns-in-Err-clause-all g c =
     let next = rw c.in-Some.is at c.in_ok-first.ensures.next in
-    rw (c.fault_of.ensures.fault ∙ ap (λ (n : ℕ). fault_of n c.in-Err.stop) c.done-number.ensures.count)
+    rw (c.fault_of.ensures.fault ∙ ap (λ (n : ℕ). driver_fault n c.in-Err.stop) c.done-number.ensures.count)
     (drive_stops alone says_any (only_step g.H.Handler.step) (g.H.Handler.is_at c.args.handler.now) (g.H.Handler.is_at c.loop-first.handler) (g.H.Handler.is_at c.hand_over.new.handler) c.in-Some.first c.in-Err.stop (total g.H.Handler.step) c.in_ok-first.ensures.sound next c.in-Err.ensures c.loop-first.invariant)
 
 pub loop-first-preserved : goal.loop-first-preserved

@@ -1,5 +1,5 @@
 use Rattle.std.proofs.Common.{◌≡◌, ◌+◌, ◌-◌, [], ◌++◌, List, ℕ, length, take, drop, ap, sym, ◌∙◌, arith, append-nil, drop-drop, take_all, length-drop, length-append, take-append-drop}
-use Rattle.wb_lines.proofs.KnownBytes.{Sends-then}
+use Rattle.wb_lines.proofs.KnownBytes.{SendsOut-then}
 use Rattle.wb_lines.proofs.output.Output.flush.Goals as goal
 
 pub loop-self-preserved : goal.loop-self-preserved
@@ -13,7 +13,7 @@ loop-self-preserved g c =
     append-nil (drop start items) ∙ sym (take-append-drop count (drop start items)) ∙ ap (λ (t : List ℕ). take count (drop start items) ++ t) (drop-drop count start items) in
     record {
       in_range = omega (arith, pushed.1, length-drop start items, c.loop-self-test.true);
-      sends = Sends-then (g.W.Sink.taken c.args.sink.now) (g.W.Sink.taken c.loop-self.sink) (g.W.Sink.taken c.push.new.self) c.args.self.now (drop start items) (drop (start + count) items) [] [] c.loop-self.invariant.sends (take count (drop start items), pushed.2, rest);
+      sends = SendsOut-then (g.W.Sink.taken c.args.sink.now) (g.W.Sink.taken c.loop-self.sink) (g.W.Sink.taken c.push.new.self) c.args.self.now (drop start items) (drop (start + count) items) [] [] c.loop-self.invariant.sends (take count (drop start items), pushed.2, rest);
     }
 
 pub returns-in-None-clause-nothing : goal.returns-in-None-clause-nothing

@@ -5,7 +5,7 @@ use Rattle.wb_lines.specs.Handling.{Does}
 use Rattle.wb_commands.specs.declared.command.Command.{Command}
 use Rattle.wb_commands.specs.declared.fault.LineFault.{LineFault}
 use Rattle.wb_commands.specs.declared.fault.Untaken.{Untaken}
-use Rattle.wb_commands.specs.Parsing.{ParsesLine, line_of}
+use Rattle.wb_commands.specs.Parsing.{ParsesLine, script_line_of}
 use Rattle.wb_script.specs.Checking.{parsed_step}
 use Rattle.wb_script.proofs.checking.CheckerHandler.take.Goals as goal
 use Rattle.wb_script.proofs.checking.CheckerHandler.take.Goals.{in-Ok, in-Err-Line, in-Err-Memory}
@@ -26,11 +26,11 @@ prints_none (Err e) = ([], refl)
 
 pub returns : goal.returns
 returns c =
-    let said : Result Command LineFault = line_of c.without_end.result.now in (
+    let said : Result Command LineFault = script_line_of c.without_end.result.now in (
       [],
       sym (append-nil c.args._output.now),
       λ s at.
-          subst (λ (bytes : List ℕ). Answers c.match-parse_line.result (line_of bytes)) c.without_end.ensures (elim c.match-parse_line.branch [
+          subst (λ (bytes : List ℕ). Answers c.match-parse_line.result (script_line_of bytes)) c.without_end.ensures (elim c.match-parse_line.branch [
             | in-Ok w ↦ subst (λ (r : Result (Unit {0}) (Stop LineFault)). Answers r said) (sym w.result-is) (goes_on said w.in-Ok.field-0 w.in-Ok.ensures.line)
             | in-Err-Line w ↦ subst (λ (r : Result (Unit {0}) (Stop LineFault)). Answers r said) (sym w.result-is)
                 (stops_so said w.in-Err-Line.fault (subst (λ (u : Untaken). ParsesLine (Err u) said) w.in-Err-Line.field-0-is w.in-Err-Line.ensures.line))

@@ -1,7 +1,7 @@
 use Rattle.std.proofs.Common.{rules, ◌≡◌, None, Some, refl, sym, ap, ◌∙◌, unwrap_or, Ok}
 use Rattle.std.proofs.lemmas.Result.{err_from_is_err_and}
 use Rattle.wb_commands.specs.declared.command.Command.TheVariants.{Board}
-use Rattle.wb_script.specs.Hosts.{opened}
+use Rattle.wb_script.specs.Hosts.{script_host}
 use Rattle.wb_script.specs.Script.{said_step}
 use Rattle.wb_script.specs.Inside.Steps.{HostValue}
 use Rattle.wb_member.specs.Holding.{IsOpenAt}
@@ -15,7 +15,7 @@ returns-clause-text g c =
     let closed : c.args.self.now.member ≡ None = ap (λ (h : HostValue). h.member) (sym c.self.view_is) ∙ none in
     let value : c.unwrap_or.result ≡ unwrap_or c.self.inside.workers c.args.workers = search rules in
     let known : Some c.unwrap_or.result ≡ Some (unwrap_or c.args.self.now.workers c.args.workers) = ap Some (value ∙ ap (λ (h : HostValue). unwrap_or h.workers c.args.workers) c.self.view_is) in
-    let open_now : IsOpenAt c.in_ok-open.field-0 (opened c.args.member c.args.cells c.args.seed) = search rules in
+    let open_now : IsOpenAt c.in_ok-open.field-0 (script_host c.args.member c.args.cells c.args.seed) = search rules in
     λ s at.
     let e = ends_empty c.args.self.now s at in
     (e.0, e.1, opens c.args.self.now (record { member = Some c.in_ok-open.field-0; workers = Some c.unwrap_or.result; refused = c.self.inside.refused }) s e.0 c.in_ok-open.field-0 c.args.member c.args.cells c.args.workers c.args.seed e.2 closed refl known open_now)

@@ -4,7 +4,7 @@ use Rattle.wb_commands.specs.declared.command.Command.{Command}
 use Rattle.wb_commands.specs.declared.command.Command.TheVariants.{Skip, Board, Arrive}
 use Rattle.wb_script.specs.Inside.Parts.{EndsBatchAt}
 use Rattle.wb_script.specs.Script.{Acts, Part, End, part_of, part_step}
-use Rattle.wb_script.specs.Inside.Steps.{IsAt, as_step}
+use Rattle.wb_script.specs.Inside.Steps.{IsRunAt, as_step}
 use Rattle.wb_script.proofs.host.Host.take_line.Goals as goal
 
 -- A line that ends its batch, and opens no board, acts at the board.
@@ -24,5 +24,5 @@ returns-in_default-clause-text g c =
       t.1,
       λ s at.
           let d = t.2 s at in
-          (d.0, d.1, subst (λ (part : Part). Does {U = Unit {0}} (IsAt c.act.new.self) t.0 c.act.result (as_step (part_step s d.0 part))) (sym (acts_then c.args.command.now c.requires.other c.in_default.not-Board)) d.2),
+          (d.0, d.1, subst (λ (part : Part). Does {U = Unit {0}} (IsRunAt c.act.new.self) t.0 c.act.result (as_step (part_step s d.0 part))) (sym (acts_then c.args.command.now c.requires.other c.in_default.not-Board)) d.2),
     )
