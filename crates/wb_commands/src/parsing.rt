@@ -115,7 +115,7 @@ fn show(rest: &[u8]) -> Result<Query, LineFault>
     })
 }
 
-#[tactic(auto, unfolding(crate::specs::Parsing::distance))]
+#[tactic(auto, unfolding(crate::specs::Parsing::distance_set))]
 fn distance(rest: &[u8]) -> Result<Command, LineFault>
     ensures line { result ≡ distance_set (words rest.now) }
     ensures within { IfOk result IsScriptWithin }
@@ -169,7 +169,7 @@ fn pages(rest: &[u8]) -> Result<Query, LineFault>
 }
 
 /// The question with this first word.
-#[tactic(auto, unfolding(crate::specs::Parsing::question))]
+#[tactic(auto, unfolding(crate::specs::Parsing::script_question))]
 fn question(word: &[u8], rest: &[u8]) -> Result<Query, LineFault>
     ensures query { result ≡ script_question word.now (words rest.now) }
     ensures within { IfOk result IsAnswerable }
@@ -243,7 +243,7 @@ fn bytes_line(alloc: Global, rest: &[u8]) -> Result<Command, Untaken>
     Ok(handed_in(datagram(alloc, rest)?))
 }
 
-#[tactic(auto, unfolding(crate::specs::Parsing::page_line))]
+#[tactic(auto, unfolding(crate::specs::Parsing::line_of_page))]
 fn page_line(word: &[u8], rest: &[u8]) -> Result<Command, LineFault>
     ensures line { result ≡ line_of_page word.now (words rest.now) }
     ensures within { IfOk result IsScriptWithin }
@@ -257,7 +257,7 @@ fn page_line(word: &[u8], rest: &[u8]) -> Result<Command, LineFault>
     }
 }
 
-#[tactic(auto, unfolding(crate::specs::Parsing::command))]
+#[tactic(auto, unfolding(crate::specs::Parsing::script_command))]
 fn command(alloc: Global, word: &[u8], rest: &[u8]) -> Result<Command, Untaken>
     ensures line { ParsesLine result (script_command word.now (words rest.now)) }
     ensures within { IfOk result IsScriptWithin }

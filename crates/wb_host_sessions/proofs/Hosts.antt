@@ -6,7 +6,7 @@ use Rattle.wb_names.specs.Values.{DrawopValue}
 use Rattle.wb_names.proofs.Listings.{Contains-none}
 use Rattle.wb_member.specs.Opened.{Opened}
 use Rattle.wb_laws_machines.specs.Honest.{IsLawful}
-use Rattle.wb_host_sessions.specs.Hosts.{Drives, Driven, Host, HostEvent, Judged, Judges, Keeps, Kept, Sets, set_to_keep, after_event, driven_in, hosts, judged_in, kept_in, member_of}
+use Rattle.wb_host_sessions.specs.Hosts.{Drives, Driven, AnyHost, HostEvent, JudgedHost, Judges, Keeps, Kept, Sets, set_to_keep, after_event, driven_in, hosts, judged_state, kept_state, member_of}
 use Rattle.wb_judged_sessions.specs.Judged.{judged}
 use Rattle.wb_laws_kept.specs.Kept.{kept}
 use Rattle.wb_laws_machines.specs.Machines.{Machine}
@@ -52,57 +52,57 @@ module _ {S E : Type 0} (m : Machine S E) (lawful : IsLawful m) (e : E) (s : S) 
 
 -- ---- hosts
 
-driven_is : (x : Host) → IsOrBegins member (driven_in x) (member_of x)
+driven_is : (x : AnyHost) → IsOrBegins member (driven_in x) (member_of x)
 driven_is (Driven host) = inl refl
 driven_is (Kept k) = inr refl
-driven_is (Judged h) = inr refl
+driven_is (JudgedHost h) = inr refl
 
-kept_is : (x : Host) → IsOrBegins kept (kept_in x) (member_of x)
+kept_is : (x : AnyHost) → IsOrBegins kept (kept_state x) (member_of x)
 kept_is (Driven host) = inr refl
 kept_is (Kept k) = inl refl
-kept_is (Judged h) = inr refl
+kept_is (JudgedHost h) = inr refl
 
-judged_is : (x : Host) → IsOrBegins judged (judged_in x) (member_of x)
+judged_is : (x : AnyHost) → IsOrBegins judged (judged_state x) (member_of x)
 judged_is (Driven host) = inr refl
 judged_is (Kept k) = inr refl
-judged_is (Judged h) = inl refl
+judged_is (JudgedHost h) = inl refl
 
-pub same_member : (rate listen seed : ℕ) (x : Host) → member_of (set_to_keep rate listen seed x) ≡ member_of x
+pub same_member : (rate listen seed : ℕ) (x : AnyHost) → member_of (set_to_keep rate listen seed x) ≡ member_of x
 same_member rate listen seed (Driven host) = refl
 same_member rate listen seed (Kept k) = refl
-same_member rate listen seed (Judged h) = refl
+same_member rate listen seed (JudgedHost h) = refl
 
-keeps : (e : HostEvent) (x : Host) → (member_of (after_event e x)).is.number ≡ (member_of x).is.number
+keeps : (e : HostEvent) (x : AnyHost) → (member_of (after_event e x)).is.number ≡ (member_of x).is.number
 keeps (Drives deed) x = keeps_there member member_is_lawful deed (driven_in x) (member_of x) (driven_is x)
-keeps (Keeps call) x = keeps_there kept kept_is_lawful call (kept_in x) (member_of x) (kept_is x)
-keeps (Judges call) x = keeps_there judged judged_is_lawful call (judged_in x) (member_of x) (judged_is x)
+keeps (Keeps call) x = keeps_there kept kept_is_lawful call (kept_state x) (member_of x) (kept_is x)
+keeps (Judges call) x = keeps_there judged judged_is_lawful call (judged_state x) (member_of x) (judged_is x)
 keeps (Sets rate listen seed) x = ap (λ (h : Opened). h.is.number) (same_member rate listen seed x)
 
-abbrev Comes : HostEvent → Host → DrawopValue → Type 0
+abbrev Comes : HostEvent → AnyHost → DrawopValue → Type 0
 Comes e x d = Contains (member_of x).is.held d ⊎ (Contains (hosts.gained e x) d ⊎ Contains (hosts.drawn e x) d)
 
-brings : (e : HostEvent) (x : Host) (d : DrawopValue) → Contains (member_of (after_event e x)).is.held d → Comes e x d
+brings : (e : HostEvent) (x : AnyHost) (d : DrawopValue) → Contains (member_of (after_event e x)).is.held d → Comes e x d
 brings (Drives deed) x = brings_there member member_is_lawful deed (driven_in x) (member_of x) (driven_is x)
-brings (Keeps call) x = brings_there kept kept_is_lawful call (kept_in x) (member_of x) (kept_is x)
-brings (Judges call) x = brings_there judged judged_is_lawful call (judged_in x) (member_of x) (judged_is x)
+brings (Keeps call) x = brings_there kept kept_is_lawful call (kept_state x) (member_of x) (kept_is x)
+brings (Judges call) x = brings_there judged judged_is_lawful call (judged_state x) (member_of x) (judged_is x)
 brings (Sets rate listen seed) x = λ d c. inl (subst (λ (h : Opened). Contains h.is.held d) (same_member rate listen seed x) c)
 
-few : (e : HostEvent) (x : Host) → length (hosts.drawn e x) ≤ 1
+few : (e : HostEvent) (x : AnyHost) → length (hosts.drawn e x) ≤ 1
 few (Drives deed) x = member_is_lawful.few deed (driven_in x)
-few (Keeps call) x = kept_is_lawful.few call (kept_in x)
-few (Judges call) x = judged_is_lawful.few call (judged_in x)
+few (Keeps call) x = kept_is_lawful.few call (kept_state x)
+few (Judges call) x = judged_is_lawful.few call (judged_state x)
 few (Sets rate listen seed) x = omega arith
 
-once : (e : HostEvent) (x : Host) → IsHistory (member_of x).is.held → IsHistory (member_of (after_event e x)).is.held
+once : (e : HostEvent) (x : AnyHost) → IsHistory (member_of x).is.held → IsHistory (member_of (after_event e x)).is.held
 once (Drives deed) x = once_there member member_is_lawful deed (driven_in x) (member_of x) (driven_is x)
-once (Keeps call) x = once_there kept kept_is_lawful call (kept_in x) (member_of x) (kept_is x)
-once (Judges call) x = once_there judged judged_is_lawful call (judged_in x) (member_of x) (judged_is x)
+once (Keeps call) x = once_there kept kept_is_lawful call (kept_state x) (member_of x) (kept_is x)
+once (Judges call) x = once_there judged judged_is_lawful call (judged_state x) (member_of x) (judged_is x)
 once (Sets rate listen seed) x = λ is. subst (λ (h : Opened). IsHistory h.is.held) (sym (same_member rate listen seed x)) is
 
-room : (e : HostEvent) (x : Host) → length (member_of x).is.held ≤ (member_of x).is.cells → length (member_of (after_event e x)).is.held ≤ (member_of (after_event e x)).is.cells
+room : (e : HostEvent) (x : AnyHost) → length (member_of x).is.held ≤ (member_of x).is.cells → length (member_of (after_event e x)).is.held ≤ (member_of (after_event e x)).is.cells
 room (Drives deed) x = room_there member member_is_lawful deed (driven_in x) (member_of x) (driven_is x)
-room (Keeps call) x = room_there kept kept_is_lawful call (kept_in x) (member_of x) (kept_is x)
-room (Judges call) x = room_there judged judged_is_lawful call (judged_in x) (member_of x) (judged_is x)
+room (Keeps call) x = room_there kept kept_is_lawful call (kept_state x) (member_of x) (kept_is x)
+room (Judges call) x = room_there judged judged_is_lawful call (judged_state x) (member_of x) (judged_is x)
 room (Sets rate listen seed) x = λ is. subst (λ (h : Opened). length h.is.held ≤ h.is.cells) (sym (same_member rate listen seed x)) is
 
 pub hosts_are_lawful : IsLawful hosts

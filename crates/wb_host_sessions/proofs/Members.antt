@@ -6,9 +6,9 @@ use Rattle.wb_names.specs.Values.{DrawopValue}
 use Rattle.wb_codec.specs.declared.datagram.Datagram.{Datagram}
 use Rattle.wb_member.specs.Opened.{Opened}
 use Rattle.wb_laws_sessions.specs.Members.{Deed, member}
-use Rattle.wb_host_sessions.specs.Hosts.{Drives, Driven, Host, HostEvent, Judged, Judges, Keeps, Kept, Sets, after_event, driven_in, hosts, is_taken, judged_in, kept_in, member_of}
+use Rattle.wb_host_sessions.specs.Hosts.{Drives, Driven, AnyHost, HostEvent, JudgedHost, Judges, Keeps, Kept, Sets, after_event, driven_in, hosts, is_event_taken, judged_state, kept_state, member_of}
 use Rattle.wb_judged_sessions.specs.Judged.{judged}
-use Rattle.wb_host_sessions.specs.Members.{IsSound, deeds_of, driven_turn, ends, hosts_map, judged_member_map, judged_turn, kept_turn}
+use Rattle.wb_host_sessions.specs.Members.{IsSoundHost, host_deeds, driven_turn, ends, hosts_map, judged_member_map, judged_turn, kept_turn}
 use Rattle.wb_laws_machines.specs.Machines.{AreAllTaken, Machine, after_all, drawn_by_all, gained_by_all, sent_by_all}
 use Rattle.wb_laws_machines.specs.Maps.{HasSame, IsMap, Map}
 use Rattle.wb_laws_machines.proofs.Composed.{after_both, both_taken, drawn_by_both, both_map, gained_by_both, sent_by_both}
@@ -53,20 +53,20 @@ as_is host = record { goes = refl; draws = refl; gains = refl; takes = tt }
 anew : (host : Opened) → Turns (ends ∷ []) host (member.start host.is.number)
 anew host = record { goes = refl; draws = refl; gains = refl; takes = (omega arith, tt) }
 
-driven_turns : (x : Host) → Turns (driven_turn x) (member_of x) (driven_in x)
+driven_turns : (x : AnyHost) → Turns (driven_turn x) (member_of x) (driven_in x)
 driven_turns (Driven host) = as_is host
 driven_turns (Kept k) = anew k.host
-driven_turns (Judged h) = anew h.kept.host
+driven_turns (JudgedHost h) = anew h.kept.host
 
-kept_turns : (x : Host) → Turns (kept_turn x) (member_of x) (kept_in x).host
+kept_turns : (x : AnyHost) → Turns (kept_turn x) (member_of x) (kept_state x).host
 kept_turns (Driven host) = anew host
 kept_turns (Kept k) = as_is k.host
-kept_turns (Judged h) = anew h.kept.host
+kept_turns (JudgedHost h) = anew h.kept.host
 
-judged_turns : (x : Host) → Turns (judged_turn x) (member_of x) (judged_in x).kept.host
+judged_turns : (x : AnyHost) → Turns (judged_turn x) (member_of x) (judged_state x).kept.host
 judged_turns (Driven host) = anew host
 judged_turns (Kept k) = anew k.host
-judged_turns (Judged h) = as_is h.kept.host
+judged_turns (JudgedHost h) = as_is h.kept.host
 
 -- ---- an event after such a turn
 
@@ -103,47 +103,47 @@ module _ {S E : Type 0} {m : Machine S E} {via : Map S E Opened Deed} (o : IsMap
 
 -- ---- hosts
 
-sound_in : (x : Host) → IsSound x → judged_member_map.IsSound (judged_in x)
+sound_in : (x : AnyHost) → IsSoundHost x → judged_member_map.IsSound (judged_state x)
 sound_in (Driven host) is = judged_does.sound host.is.number
 sound_in (Kept k) is = judged_does.sound k.host.is.number
-sound_in (Judged h) is = is
+sound_in (JudgedHost h) is = is
 
-goes : (e : HostEvent) (x : Host) → after_all member (deeds_of e x) (member_of x) ≡ member_of (after_event e x)
+goes : (e : HostEvent) (x : AnyHost) → after_all member (host_deeds e x) (member_of x) ≡ member_of (after_event e x)
 goes (Drives deed) x = turn_goes same_member (driven_turn x) (member_of x) (driven_in x) (driven_turns x) deed
-goes (Keeps call) x = turn_goes kept_is_map (kept_turn x) (member_of x) (kept_in x) (kept_turns x) call
-goes (Judges call) x = turn_goes judged_does (judged_turn x) (member_of x) (judged_in x) (judged_turns x) call
+goes (Keeps call) x = turn_goes kept_is_map (kept_turn x) (member_of x) (kept_state x) (kept_turns x) call
+goes (Judges call) x = turn_goes judged_does (judged_turn x) (member_of x) (judged_state x) (judged_turns x) call
 goes (Sets rate listen seed) x = sym (same_set rate listen seed x)
 
-draws : (e : HostEvent) (x : Host) → drawn_by_all member (deeds_of e x) (member_of x) ≡ hosts.drawn e x
+draws : (e : HostEvent) (x : AnyHost) → drawn_by_all member (host_deeds e x) (member_of x) ≡ hosts.drawn e x
 draws (Drives deed) x = turn_draws same_member (driven_turn x) (member_of x) (driven_in x) (driven_turns x) deed
-draws (Keeps call) x = turn_draws kept_is_map (kept_turn x) (member_of x) (kept_in x) (kept_turns x) call
-draws (Judges call) x = turn_draws judged_does (judged_turn x) (member_of x) (judged_in x) (judged_turns x) call
+draws (Keeps call) x = turn_draws kept_is_map (kept_turn x) (member_of x) (kept_state x) (kept_turns x) call
+draws (Judges call) x = turn_draws judged_does (judged_turn x) (member_of x) (judged_state x) (judged_turns x) call
 draws (Sets rate listen seed) x = refl
 
-gains : (e : HostEvent) (x : Host) (d : DrawopValue) → Contains (gained_by_all member (deeds_of e x) (member_of x)) d → Contains (hosts.gained e x) d
+gains : (e : HostEvent) (x : AnyHost) (d : DrawopValue) → Contains (gained_by_all member (host_deeds e x) (member_of x)) d → Contains (hosts.gained e x) d
 gains (Drives deed) x = turn_gains same_member (driven_turn x) (member_of x) (driven_in x) (driven_turns x) deed
-gains (Keeps call) x = turn_gains kept_is_map (kept_turn x) (member_of x) (kept_in x) (kept_turns x) call
-gains (Judges call) x = turn_gains judged_does (judged_turn x) (member_of x) (judged_in x) (judged_turns x) call
+gains (Keeps call) x = turn_gains kept_is_map (kept_turn x) (member_of x) (kept_state x) (kept_turns x) call
+gains (Judges call) x = turn_gains judged_does (judged_turn x) (member_of x) (judged_state x) (judged_turns x) call
 gains (Sets rate listen seed) x = λ d c. c
 
-stays : (e : HostEvent) (x : Host) → IsSound x → IsSound (after_event e x)
+stays : (e : HostEvent) (x : AnyHost) → IsSoundHost x → IsSoundHost (after_event e x)
 stays (Drives deed) x is = tt
 stays (Keeps call) x is = tt
-stays (Judges call) x is = judged_does.stays call (judged_in x) (sound_in x is)
+stays (Judges call) x is = judged_does.stays call (judged_state x) (sound_in x is)
 stays (Sets rate listen seed) (Driven host) is = tt
 stays (Sets rate listen seed) (Kept k) is = tt
-stays (Sets rate listen seed) (Judged h) is = is
+stays (Sets rate listen seed) (JudgedHost h) is = is
 
-takes : (e : HostEvent) (x : Host) → IsSound x → is_taken e x → AreAllTaken member (deeds_of e x) (member_of x)
+takes : (e : HostEvent) (x : AnyHost) → IsSoundHost x → is_event_taken e x → AreAllTaken member (host_deeds e x) (member_of x)
 takes (Drives deed) x is = turn_takes same_member (driven_turn x) (member_of x) (driven_in x) (driven_turns x) deed tt
-takes (Keeps call) x is = turn_takes kept_is_map (kept_turn x) (member_of x) (kept_in x) (kept_turns x) call tt
-takes (Judges call) x is = turn_takes judged_does (judged_turn x) (member_of x) (judged_in x) (judged_turns x) call (sound_in x is)
+takes (Keeps call) x is = turn_takes kept_is_map (kept_turn x) (member_of x) (kept_state x) (kept_turns x) call tt
+takes (Judges call) x is = turn_takes judged_does (judged_turn x) (member_of x) (judged_state x) (judged_turns x) call (sound_in x is)
 takes (Sets rate listen seed) x is = λ taken. tt
 
-says : (e : HostEvent) (x : Host) → IsSound x → is_taken e x → (v : Datagram) → Contains (hosts.sends e x) v → HasSame (sent_by_all member (deeds_of e x) (member_of x)) v
+says : (e : HostEvent) (x : AnyHost) → IsSoundHost x → is_event_taken e x → (v : Datagram) → Contains (hosts.sends e x) v → HasSame (sent_by_all member (host_deeds e x) (member_of x)) v
 says (Drives deed) x is = turn_says same_member (driven_turn x) (member_of x) (driven_in x) (driven_turns x) deed tt
-says (Keeps call) x is = turn_says kept_is_map (kept_turn x) (member_of x) (kept_in x) (kept_turns x) call tt
-says (Judges call) x is = turn_says judged_does (judged_turn x) (member_of x) (judged_in x) (judged_turns x) call (sound_in x is)
+says (Keeps call) x is = turn_says kept_is_map (kept_turn x) (member_of x) (kept_state x) (kept_turns x) call tt
+says (Judges call) x is = turn_says judged_does (judged_turn x) (member_of x) (judged_state x) (judged_turns x) call (sound_in x is)
 says (Sets rate listen seed) x is = λ taken v c. absurd (Contains-none v c)
 
 pub hosts_do : IsMap hosts member hosts_map

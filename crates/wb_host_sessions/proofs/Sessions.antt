@@ -13,11 +13,11 @@ use Rattle.wb_member.specs.Opened.{Opened, becomes, last_number, ticked}
 use Rattle.wb_laws_kept.specs.Sessions.{Begins, Call as KeptCall, Handed}
 use Rattle.wb_judged_sessions.specs.Sessions.{plain_line, JudgedCall, Starts, Takes, Tunes}
 use Rattle.wb_laws_machines.specs.Honest.{AreHonest, IsAbove, IsOn}
-use Rattle.wb_host_sessions.specs.Hosts.{Drives, Driven, Host, HostEvent, Judged, Judges, Keeps, Kept, Sets, hosts, judged_in, kept_in, member_of}
+use Rattle.wb_host_sessions.specs.Hosts.{Drives, Driven, AnyHost, HostEvent, JudgedHost, Judges, Keeps, Kept, Sets, hosts, judged_state, kept_state, member_of}
 use Rattle.wb_judged_sessions.specs.Judged.{judged}
 use Rattle.wb_laws_kept.specs.Kept.{kept}
 use Rattle.wb_laws_machines.specs.Machines.{At, drawn_at, state_at}
-use Rattle.wb_host_sessions.specs.Sessions.{DrawsAnew, HostsAgree, HostsAreMembers, KeepTo, KnowsItsOwn, NothingIsInvented}
+use Rattle.wb_host_sessions.specs.Sessions.{DrawsAnew, HostsAgree, HostsAreMembers, KeepTo, PlaceKnowsItsOwn, NothingIsInvented}
 use Rattle.wb_laws_machines.proofs.Drawn.{each_was_drawn, names_mean_one, number_at}
 use Rattle.wb_laws_machines.proofs.Honest.{honest_below}
 use Rattle.wb_host_sessions.proofs.Hosts.{hosts_are_lawful}
@@ -48,26 +48,26 @@ judged_counts (Starts start given) h d c = absurd (Contains-none d c)
 judged_counts (Takes line) h d c = kept_counts (Handed (plain_line (handed line h))) h.kept d (subst (λ (ds : List DrawopValue). Contains ds d) (sym (line_draws line h)) c)
 judged_counts (Tunes constants) h d c = absurd (Contains-none d c)
 
-kept_number : (x : Host) → (kept_in x).host.is.number ≡ (member_of x).is.number
+kept_number : (x : AnyHost) → (kept_state x).host.is.number ≡ (member_of x).is.number
 kept_number (Driven host) = refl
 kept_number (Kept k) = refl
-kept_number (Judged h) = refl
+kept_number (JudgedHost h) = refl
 
-judged_number : (x : Host) → (judged_in x).kept.host.is.number ≡ (member_of x).is.number
+judged_number : (x : AnyHost) → (judged_state x).kept.host.is.number ≡ (member_of x).is.number
 judged_number (Driven host) = refl
 judged_number (Kept k) = refl
-judged_number (Judged h) = refl
+judged_number (JudgedHost h) = refl
 
 -- ---- what is asked of hosts is what is asked of machines
 
 module _ (page : PageId) (numbers : ℕ → ℕ) (older : List (At HostEvent)) (i : ℕ) where
-  abbrev x : Host
+  abbrev x : AnyHost
   x = state_at hosts numbers older i
 
   abbrev Good : DrawopValue → Type 0
   Good d = (d.name.source ≡ numbers i) × (1 ≤ d.name.seq) × IsAbove (drawn_at hosts numbers older i) d.name
 
-  next_good : (host : Opened) (d : DrawopValue) → host.is.number ≡ (member_of x).is.number → d.name.page ≡ page → IsNextOf host d → KnowsItsOwn page numbers older i host → Good d
+  next_good : (host : Opened) (d : DrawopValue) → host.is.number ≡ (member_of x).is.number → d.name.page ≡ page → IsNextOf host d → PlaceKnowsItsOwn page numbers older i host → Good d
   next_good host d same here next knows = (
     next.0 ∙ same ∙ number_at hosts numbers hosts_are_lawful older i,
     (let e : d.name.seq ≡ last_number d.name.page host + 1 = next.1 in omega (arith, e)),
@@ -79,8 +79,8 @@ module _ (page : PageId) (numbers : ℕ → ℕ) (older : List (At HostEvent)) (
 
   all_good : (e : HostEvent) → DrawsAnew page numbers older i e x → (d : DrawopValue) → d.name.page ≡ page → Contains (hosts.drawn e x) d → Good d
   all_good (Drives deed) anew d here c = anew d here c
-  all_good (Keeps call) anew d here c = next_good (kept_in x).host d (kept_number x) here (kept_counts call (kept_in x) d c) (anew d here c)
-  all_good (Judges call) anew d here c = next_good (judged_in x).kept.host d (judged_number x) here (judged_counts call (judged_in x) d c) (anew d here c)
+  all_good (Keeps call) anew d here c = next_good (kept_state x).host d (kept_number x) here (kept_counts call (kept_state x) d c) (anew d here c)
+  all_good (Judges call) anew d here c = next_good (judged_state x).kept.host d (judged_number x) here (judged_counts call (judged_state x) d c) (anew d here c)
   all_good (Sets rate listen seed) anew d here c = absurd (Contains-none d c)
 
 pub hosts_are_honest : (page : PageId) (numbers : ℕ → ℕ) (trace : List (At HostEvent)) → KeepTo page numbers trace → AreHonest (IsOn page) hosts numbers trace

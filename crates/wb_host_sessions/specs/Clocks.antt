@@ -25,12 +25,12 @@ abbrev pub kept_hears : KeptCall → List Datagram
 kept_hears (Begins o given) = given
 kept_hears (Handed line) = heard_in line
 
-abbrev pub IsNoStart : KeptCall → Type 0
-IsNoStart (Begins o given) = ⊥
-IsNoStart (Handed line) = Unit {0}
+abbrev pub IsKeptLine : KeptCall → Type 0
+IsKeptLine (Begins o given) = ⊥
+IsKeptLine (Handed line) = Unit {0}
 
 abbrev pub kept_clock : Clocked kept
-kept_clock = record { hears = λ call k. kept_hears call; due = due; IsSteady = λ call k. IsNoStart call }
+kept_clock = record { hears = λ call k. kept_hears call; due = due; IsSteady = λ call k. IsKeptLine call }
 
 -- what the judge lets in
 abbrev pub judged_hears : JudgedCall → Judged → List Datagram

@@ -12,10 +12,10 @@ use Rattle.wb_judged_sessions.specs.Judged.{judged}
 use Rattle.wb_laws_kept.specs.Kept.{kept, unkept}
 use Rattle.wb_laws_machines.specs.Machines.{Machine}
 
-pub data Host : Type 0 where
-  Driven : Opened → Host
-  Kept : Keeping → Host
-  Judged : JudgedState → Host
+pub data AnyHost : Type 0 where
+  Driven : Opened → AnyHost
+  Kept : Keeping → AnyHost
+  JudgedHost : JudgedState → AnyHost
 
 pub data HostEvent : Type 0 where
   Drives : (deed : Deed) → HostEvent
@@ -23,53 +23,53 @@ pub data HostEvent : Type 0 where
   Judges : (call : JudgedCall) → HostEvent
   Sets : (rate listen seed : ℕ) → HostEvent
 
-abbrev pub member_of : Host → Opened
+abbrev pub member_of : AnyHost → Opened
 member_of (Driven host) = host
 member_of (Kept k) = k.host
-member_of (Judged h) = h.kept.host
+member_of (JudgedHost h) = h.kept.host
 
 -- the state of a kind: that of the host, or that of its number before its program started
-abbrev pub driven_in : Host → Opened
+abbrev pub driven_in : AnyHost → Opened
 driven_in (Driven host) = host
 driven_in (Kept k) = unopened k.host.is.number
-driven_in (Judged h) = unopened h.kept.host.is.number
+driven_in (JudgedHost h) = unopened h.kept.host.is.number
 
-abbrev pub kept_in : Host → Keeping
-kept_in (Driven host) = unkept host.is.number
-kept_in (Kept k) = k
-kept_in (Judged h) = unkept h.kept.host.is.number
+abbrev pub kept_state : AnyHost → Keeping
+kept_state (Driven host) = unkept host.is.number
+kept_state (Kept k) = k
+kept_state (JudgedHost h) = unkept h.kept.host.is.number
 
-abbrev pub judged_in : Host → JudgedState
-judged_in (Driven host) = unstarted host.is.number
-judged_in (Kept k) = unstarted k.host.is.number
-judged_in (Judged h) = h
+abbrev pub judged_state : AnyHost → JudgedState
+judged_state (Driven host) = unstarted host.is.number
+judged_state (Kept k) = unstarted k.host.is.number
+judged_state (JudgedHost h) = h
 
 -- A driven host is set to be self-managing from now on, with the board that it has.
-abbrev pub set_to_keep : ℕ → ℕ → ℕ → Host → Host
+abbrev pub set_to_keep : ℕ → ℕ → ℕ → AnyHost → AnyHost
 set_to_keep rate listen seed (Driven host) = Kept (record { host = host; policy = begun (present host) rate listen seed })
 set_to_keep rate listen seed (Kept k) = Kept k
-set_to_keep rate listen seed (Judged h) = Judged h
+set_to_keep rate listen seed (JudgedHost h) = JudgedHost h
 
-abbrev pub after_event : HostEvent → Host → Host
+abbrev pub after_event : HostEvent → AnyHost → AnyHost
 after_event (Drives deed) x = Driven (member.after deed (driven_in x))
-after_event (Keeps call) x = Kept (kept.after call (kept_in x))
-after_event (Judges call) x = Judged (judged.after call (judged_in x))
+after_event (Keeps call) x = Kept (kept.after call (kept_state x))
+after_event (Judges call) x = JudgedHost (judged.after call (judged_state x))
 after_event (Sets rate listen seed) x = set_to_keep rate listen seed x
 
 -- what a machine has of an event, at the state of the event's kind
-abbrev pub of_event : {R : Type 0} → R → (Deed → Opened → R) → (KeptCall → Keeping → R) → (JudgedCall → JudgedState → R) → HostEvent → Host → R
+abbrev pub of_event : {R : Type 0} → R → (Deed → Opened → R) → (KeptCall → Keeping → R) → (JudgedCall → JudgedState → R) → HostEvent → AnyHost → R
 of_event none one other third (Drives deed) x = one deed (driven_in x)
-of_event none one other third (Keeps call) x = other call (kept_in x)
-of_event none one other third (Judges call) x = third call (judged_in x)
+of_event none one other third (Keeps call) x = other call (kept_state x)
+of_event none one other third (Judges call) x = third call (judged_state x)
 of_event none one other third (Sets rate listen seed) x = none
 
-abbrev pub is_taken : HostEvent → Host → Type 0
-is_taken (Drives deed) x = member.IsTaken deed (driven_in x)
-is_taken (Keeps call) x = kept.IsTaken call (kept_in x)
-is_taken (Judges call) x = judged.IsTaken call (judged_in x)
-is_taken (Sets rate listen seed) x = Unit {0}
+abbrev pub is_event_taken : HostEvent → AnyHost → Type 0
+is_event_taken (Drives deed) x = member.IsTaken deed (driven_in x)
+is_event_taken (Keeps call) x = kept.IsTaken call (kept_state x)
+is_event_taken (Judges call) x = judged.IsTaken call (judged_state x)
+is_event_taken (Sets rate listen seed) x = Unit {0}
 
-abbrev pub hosts : Machine Host HostEvent
+abbrev pub hosts : Machine AnyHost HostEvent
 hosts = record {
   start = λ n. Driven (unopened n);
   member = member_of;
@@ -78,5 +78,5 @@ hosts = record {
   drawn = of_event [] member.drawn kept.drawn judged.drawn;
   gained = of_event [] member.gained kept.gained judged.gained;
   moment = of_event None member.moment kept.moment judged.moment;
-  IsTaken = is_taken;
+  IsTaken = is_event_taken;
 }

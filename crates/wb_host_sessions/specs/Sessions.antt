@@ -8,7 +8,7 @@ use Rattle.wb_member.specs.Opened.{Opened, gaps_at, last_number}
 use Rattle.wb_laws_machines.specs.Agreement.{Agree}
 use Rattle.wb_laws_sessions.specs.Members.{Deed, member}
 use Rattle.wb_laws_machines.specs.Honest.{AreApart, AreHonest, IsAbove, IsOn}
-use Rattle.wb_host_sessions.specs.Hosts.{Drives, Host, HostEvent, Judges, Keeps, Sets, driven_in, hosts, judged_in, kept_in}
+use Rattle.wb_host_sessions.specs.Hosts.{Drives, AnyHost, HostEvent, Judges, Keeps, Sets, driven_in, hosts, judged_state, kept_state}
 use Rattle.wb_judged_sessions.specs.Judged.{judged}
 use Rattle.wb_host_sessions.specs.Members.{hosts_map}
 use Rattle.wb_laws_kept.specs.Kept.{kept}
@@ -16,24 +16,24 @@ use Rattle.wb_laws_machines.specs.Machines.{AreTaken, At, WasDrawn, WasHeld, dra
 use Rattle.wb_laws_machines.specs.Maps.{HasSame, below}
 
 -- The last number of its own that a member knows on a page is as great as each that its place drew there.
-abbrev pub KnowsItsOwn : PageId → (ℕ → ℕ) → List (At HostEvent) → ℕ → Opened → Type 0
-KnowsItsOwn page numbers older i host =
+abbrev pub PlaceKnowsItsOwn : PageId → (ℕ → ℕ) → List (At HostEvent) → ℕ → Opened → Type 0
+PlaceKnowsItsOwn page numbers older i host =
     (x : DrawopValue) → Contains (drawn_at hosts numbers older i) x → x.name.page ≡ page
     → x.name.seq ≤ last_number page host
 
 -- A driver draws under the number of its place, and above all that was drawn there. A
 -- self-managing host, judged or not, counts by itself: when it draws it knows its own numbers, by its
 -- record (tests/live/test_keeping.py: test_draw, test_unsaid) or by listening (check_listening there).
-abbrev pub DrawsAnew : PageId → (ℕ → ℕ) → List (At HostEvent) → ℕ → HostEvent → Host → Type 0
+abbrev pub DrawsAnew : PageId → (ℕ → ℕ) → List (At HostEvent) → ℕ → HostEvent → AnyHost → Type 0
 DrawsAnew page numbers older i (Drives deed) x =
     (d : DrawopValue) → d.name.page ≡ page → Contains (member.drawn deed (driven_in x)) d
     → (d.name.source ≡ numbers i) × (1 ≤ d.name.seq) × IsAbove (drawn_at hosts numbers older i) d.name
 DrawsAnew page numbers older i (Keeps call) x =
-    (d : DrawopValue) → d.name.page ≡ page → Contains (kept.drawn call (kept_in x)) d
-    → KnowsItsOwn page numbers older i (kept_in x).host
+    (d : DrawopValue) → d.name.page ≡ page → Contains (kept.drawn call (kept_state x)) d
+    → PlaceKnowsItsOwn page numbers older i (kept_state x).host
 DrawsAnew page numbers older i (Judges call) x =
-    (d : DrawopValue) → d.name.page ≡ page → Contains (judged.drawn call (judged_in x)) d
-    → KnowsItsOwn page numbers older i (judged_in x).kept.host
+    (d : DrawopValue) → d.name.page ≡ page → Contains (judged.drawn call (judged_state x)) d
+    → PlaceKnowsItsOwn page numbers older i (judged_state x).kept.host
 DrawsAnew page numbers older i (Sets rate listen seed) x = Unit {0}
 
 -- Of one page: each drawop that a host takes in, some host held before, and each is drawn as said above.
