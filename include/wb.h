@@ -28,8 +28,8 @@
  *   attributes warn of a NULL, and of a buffer that is shorter than its length says, where they see either.
  * - The thread rules above.
  *
- * The shared library is libwb.so.0. Until 1.0.0 a version may change anything, and CHANGELOG.md says what. A later one may have more statuses and
- * kinds of events. A status that is not below: the call changed nothing. An event whose kind is not below: fetch it and go on.
+ * The shared library is libwb.so.0, and wb_version says which one. Until 1.0.0 a version may change anything, and CHANGELOG.md says what. A later
+ * one may have more statuses and kinds of events. A status that is not below: the call changed nothing. An event whose kind is not below: fetch it and go on.
  */
 #ifndef WB_H
 #define WB_H
@@ -72,6 +72,10 @@ typedef struct wb_host {
 } wb_host;
 
 #define WB_HOST_CLOSED {0, 0}
+
+/* What this library is, in three lines, each with its line feed: "wb " and its version, which is that of its header; `sources` and the digest of
+ * its sources; and `proved by` with the toolchain's name, or `not proved`. A text that nobody frees; any thread may ask at any time. */
+const char *wb_version(void);
 
 /* What a call answers. A call that gives none of the first two and not WB_MEMORY changed nothing. */
 enum {

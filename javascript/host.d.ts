@@ -156,6 +156,8 @@ export class Program {
     wide: boolean;
     /** A host without a board. */
     start(): Promise<Host>;
+    /** What the module says of itself, in lines: its version, the digest of its sources, and whether they are proved. */
+    version(): Promise<string>;
 }
 /**
  * What became of a drawop that was handed in.
@@ -203,6 +205,7 @@ export type Calls = {
     wb_ask: (host: bigint, question: number, creator: number, number: number, width: number, height: number) => number;
     wb_event: (host: bigint, kind: bigint, buffer: bigint, room: bigint, size: bigint) => number;
     wb_due: (host: bigint) => bigint;
+    wb_version: () => bigint;
     wb_close: (host: bigint) => void;
 };
 /** A part of the memory that the page writes or reads. */

@@ -8,9 +8,9 @@ import time
 from collections import Counter
 from typing import Dict, List, Set, Tuple
 
-# connections of all kinds, and seconds from the beginning of one to the end of its request
+# connections of all kinds, and seconds from the beginning of one to the end of its request: a browser on a busy machine opens some, and asks much later
 MOST_CONNECTIONS = 512
-REQUEST_TIME = 5.0
+REQUEST_TIME = 20.0
 PAUSE = 0.5
 
 # requests of one browser that are answered at a time, beside its streams

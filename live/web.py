@@ -34,7 +34,7 @@ MOST_OPERATIONS = 128
 MOST_STREAMS = 128
 
 # seconds without a byte of a request, or of an answer, and that a drawing may take
-PATIENCE = 5
+PATIENCE = 20
 DRAW_PATIENCE = 10
 
 # seconds between two messages of a stream, and until one that says nothing else shows that it is there

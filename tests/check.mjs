@@ -1,7 +1,9 @@
 // What all tests under Node share.
 import assert from 'node:assert/strict';
 
-const plain = (value) => (value === undefined ? undefined : JSON.parse(JSON.stringify(value)));
+// what JSON has no words for
+const told = (_, each) => (typeof each === 'bigint' ? `${each}n` : each instanceof Map ? [...each] : each);
+const plain = (value) => (value === undefined ? undefined : JSON.parse(JSON.stringify(value, told)));
 
 /** A fact: what was found has to be what was wanted, as far as JSON tells them apart. */
 export function check(name, found, wanted) {

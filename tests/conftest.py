@@ -60,7 +60,7 @@ def pytest_report_header() -> str:
 
 
 # folders whose tests share what a file starts, so that one process has all of a file
-BY_FILE = ("live", "ui", "browser")
+BY_FILE = ("live", "attacks", "ui", "browser")
 
 
 # the folders whose tests take the program that is built beside them, as `./test --quick` names them

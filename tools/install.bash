@@ -32,9 +32,9 @@ put_live() {
 }
 
 install_below() {
-    local place
+    local place name
     place=$(readlink -f -- "$1")
-    put 755 "$program" "$place/bin/wb"
+    put 755 "$program" "$place/lib/wb/wb"
     put 644 "$parts/wb.1" "$place/share/man/man1/wb.1"
     put 644 "$parts/wb-live.1" "$place/share/man/man1/wb-live.1"
     put 644 "$parts/wb.bash" "$place/share/bash-completion/completions/wb"
@@ -43,6 +43,9 @@ install_below() {
     put 644 "$parts/THIRD-PARTY" "$place/share/doc/wb/THIRD-PARTY"
     tell_version >"$kept/version" && put 644 "$kept/version" "$place/share/doc/wb/BUILT"
     put_live "$place/share/wb"
-    ln -sfn ../share/wb/wb-live "$place/bin/wb-live" || fail "$place/bin/wb-live can't be written"
-    say "installed $place/bin/wb-live"
+    mkdir -p -- "$place/bin"
+    for name in wb wb-live; do
+        ln -sfn "../share/wb/$name" "$place/bin/$name" || fail "$place/bin/$name can't be written"
+        say "installed $place/bin/$name"
+    done
 }

@@ -5,7 +5,7 @@ library=$kept/library
 
 # what the library is made of: its sources, and its own files
 digest_of_library() {
-    sources_of_library | digest_of_files include tools/library
+    sources_of_library | digest_of_files include tools/library web/building/version.py
 }
 
 # builds the library where that is due; the program is current

@@ -102,3 +102,14 @@ keep_program() {
     cp "$1" "$program.new" && mv -f "$program.new" "$program" &&
         printf '%s\n' "$2" "$3" >"$kept/built.new" && mv -f "$kept/built.new" "$kept/built"
 }
+
+# the Python that has pytest: Debian's, or the first one of PATH
+python_of_tests() {
+    local python
+    for python in /usr/bin/python3 python3; do
+        if "$python" -c 'import pytest' 2>/dev/null; then
+            echo "$python"
+            return
+        fi
+    done
+}

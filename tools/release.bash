@@ -10,10 +10,11 @@ check_release_needs() {
     "$top/tools/release" needs && "$top/web/build" needs || exit 5
 }
 
-# of what it was built: the version, the sources, the toolchain, and each crate that was proved
+# of what it was built: the version, the sources, the toolchain, the library's sources as it says them, and each crate that was proved
 tell_built() {
     local crate
     tell_version
+    ! has_library || echo "library $(sources_of_library)"
     for crate in $(needed_crates) $(! has_library || echo wb_c); do
         echo "crate $crate proved"
     done
@@ -28,8 +29,8 @@ make_release() {
     build_page
     room=$(mktemp -d) || fail "there is no room for a release"
     static=$room/wb
-    "$top/tools/static" "$static" && tell_built >"$room/built" &&
-        "$top/tools/release" pack "$1" "$static" "$with" "$page" "$modules" "$room/built"
+    "$top/tools/static" "$static" "$room/shared" && tell_built >"$room/built" &&
+        "$top/tools/release" pack "$1" "$static" "$room/shared" "$with" "$page" "$modules" "$room/built"
     status=$?
     rm -rf "$room"
     [ "$status" = 0 ] || exit 5

@@ -3,9 +3,10 @@ import { spell } from './cells.js';
 import { $, say, tell } from './dom.js';
 import { colourFor } from './eraser.js';
 import { byPainting } from './inkitems.js';
+import { KINDS } from './inkkinds.js';
 import { boxOf } from './inkpaint.js';
 import { carriedBy } from './inktools.js';
-import { restyled } from './inkwriting.js';
+import { joined, restyled } from './inkwriting.js';
 import { wording } from './language.js';
 import { frameAbout } from './resizing.js';
 
@@ -30,7 +31,8 @@ export class Changing {
     this.by = { x: 0, y: 0 };
     this.timer = 0;
     /** @type {Record<string, () => void>} */
-    const acts = { 'chosen-delete': () => board.hand.deleteSelected(), 'chosen-twice': () => this.duplicate(), 'chosen-copy': () => this.copy(), 'chosen-front': () => this.toFront(), 'chosen-back': () => this.toBack() };
+    const acts = { 'chosen-delete': () => board.hand.deleteSelected(), 'chosen-twice': () => this.duplicate(), 'chosen-copy': () => this.copy(), 'chosen-front': () => this.toFront(), 'chosen-back': () => this.toBack(),
+      'chosen-group': () => this.group(true), 'chosen-ungroup': () => this.group(false) };
     for (const [id, act] of Object.entries(acts)) $(id).addEventListener('click', () => { act(); board.focusSheet(); });
     board.view.onMove(() => this.show());
   }
@@ -46,6 +48,7 @@ export class Changing {
     const { hand, view } = this.board, bar = $('chosen'), frame = this.isOn ? frameAbout(hand.chosenItems()) : null;
     bar.hidden = !frame;
     if (!frame) return;
+    [$('chosen-ungroup').hidden, $('chosen-group').hidden] = this.board.hand.chosen.grouped().map((is, i) => (i ? is : !is));
     const scale = view.wide / 64, [left, top] = view.corner(), { width, height } = bar.getBoundingClientRect(), room = { top: 128, bottom: view.height - 70 - height };
     const middle = ((frame.x0 + frame.x1) / 2) * scale - left, above = frame.y0 * scale - top - ABOVE - height, below = frame.y1 * scale - top + BESIDE;
     const y = above >= room.top ? above : below <= room.bottom ? below : room.top;
@@ -62,8 +65,10 @@ export class Changing {
    * @param {(shape: Shape) => Shape} change */
   change(change) {
     const { hand } = this.board, pieces = hand.chosen.pieces().map((piece) => ({ piece, shapes: hand.chosen.shapesOf(piece) }));
-    const changed = pieces.map(({ piece, shapes }) => ({ piece, shapes, anew: shapes.map(change) })).filter(({ shapes, anew }) => anew.some((shape, i) => spell(shape) !== spell(shapes[i])));
-    if (!changed.length) return tell(wording('notChanged'));
+    const all = pieces.map(({ piece, shapes }) => ({ piece, anew: shapes.map(change), shapes })), others = all.filter(({ shapes, anew }) => anew.some((shape, i) => spell(shape) !== spell(shapes[i])));
+    if (!others.length) return tell(wording('notChanged'));
+    // a group is drawn anew as a whole
+    const groups = new Set(others.flatMap(({ piece }) => this.board.ink.kept.groupOf(piece.item))), changed = all.filter(({ piece }) => groups.has(piece.item));
     const stays = pieces.filter(({ piece }) => !changed.some((each) => each.piece === piece)).flatMap(({ piece }) => piece.item), rest = hand.chosen.rest(changed.map(({ piece }) => piece));
     const done = hand.replace(changed.flatMap(({ piece }) => piece.item.drawings), changed.flatMap(({ anew }) => anew), rest);
     return done.then(() => { stays.forEach((item) => hand.chosen.add(item)); hand.chose(); });
@@ -118,14 +123,23 @@ export class Changing {
   toBack() {
     const { hand, ink, leafing } = this.board, chosen = new Set(hand.chosen.pieces().map(({ item }) => item)), /** @type {Set<Item>} */ anew = new Set();
     /** @type {(item: Item, isMeant: (other: Item) => boolean) => void} */
-    const take = (item, isMeant) => [...ink.itemsIn(boxOf(item))].filter((other) => !chosen.has(other) && isMeant(other)).forEach((other) => anew.add(other));
+    const take = (item, isMeant) => [...ink.itemsIn(boxOf(item))].filter((other) => !chosen.has(other) && isMeant(other)).forEach((other) => ink.kept.groupOf(other).forEach((each) => anew.add(each)));
     for (const item of chosen) take(item, (other) => byPainting(other, item) < 0);
     // a set is gone through to its end, though it grows
     for (const item of anew) take(item, (other) => byPainting(other, item) > 0);
-    const drawings = [...anew].sort(byPainting).flatMap((item) => item.drawings.map((drawing) => leafing.copied(drawing, colourFor(item, hand))));
+    const drawings = ink.kept.inGroups([...anew].sort(byPainting)).flatMap(({ item, drawings: all }) => all.map((drawing) => leafing.copied(drawing, colourFor(item, hand))));
     if (drawings.length > MOST_ANEW) return tell(wording('tooManyAnew', { most: MOST_ANEW }));
     if (drawings.length) hand.change(drawings, [...anew].flatMap((item) => item.drawings), { isAgain: true });
     return say(wording('toBack'));
+  }
+
+  /** Has what is selected be chosen and changed as one from now on, or no more. Cells belong to no group.
+   * @param {boolean} is */
+  group(is) {
+    const { hand } = this.board, pieces = hand.chosen.pieces().filter(({ item }) => !KINDS[item.kind].isPlain), rest = hand.chosen.rest(pieces);
+    if (pieces.length < 2) return tell(wording('oneAlone'));
+    hand.replace(pieces.flatMap(({ item }) => item.drawings), pieces.flatMap((piece, n) => hand.chosen.shapesOf(piece).map((shape, i) => joined(shape, is && n > 0 && !i))), rest);
+    return say(wording(is ? 'grouped' : 'ungrouped'));
   }
 
   /** Copies what is selected, as a key does. */

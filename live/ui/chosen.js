@@ -3,7 +3,7 @@ import { nameOf } from './cells.js';
 import { colourFor, restOf } from './eraser.js';
 import { isStroke } from './inkkinds.js';
 import { boxAbout, boxOf } from './inkpaint.js';
-import { placed, writeStroke } from './inkwriting.js';
+import { isJoined, placed, writeStroke } from './inkwriting.js';
 
 /** @typedef {import('./types.js').Shape} Shape */
 /** @typedef {import('./types.js').Drawing} Drawing */
@@ -54,13 +54,13 @@ export class Chosen {
     this.strokes = new Map();
   }
 
-  /** What is selected, in the order of painting.
+  /** What is selected, in the order of painting, but for groups: their items follow one another.
    * @returns {Piece[]} */
   pieces() {
-    const { hand, strokes } = this, { kept } = hand.parts.ink, found = hand.selected().map(({ source, seq }) => kept.itemOf(source, seq));
-    return [...new Set(found)].flatMap((item) => {
-      const part = item && strokes.get(nameOf(item.drawings[0]));
-      if (!item || (part && part.many !== item.points.length)) return [];
+    const { hand, strokes } = this, { kept } = hand.parts.ink, found = new Set(hand.selected().map(({ source, seq }) => kept.itemOf(source, seq)));
+    return kept.inGroups([...found].flatMap((item) => item ?? [])).flatMap(({ item }) => {
+      const part = strokes.get(nameOf(item.drawings[0]));
+      if (part && part.many !== item.points.length) return [];
       if (part) part.shown ??= pieceOf(item, part.parts);
       return [{ item, parts: part?.parts ?? null, shown: part?.shown ?? item }];
     });
@@ -104,9 +104,23 @@ export class Chosen {
     return this.hand.selection.has(name) && (!some || parts.some((part) => some.parts.has(part)));
   }
 
-  /** Selects an item, or some strokes of it, with those that were.
+  /** Whether something that is selected is of a group, and whether all of it is one.
+   * @returns {[boolean, boolean]} */
+  grouped() {
+    const [first, ...others] = this.pieces(), areJoined = others.map(({ item }) => isJoined(item.drawings[0]));
+    return [areJoined.some(Boolean), first !== undefined && areJoined.every(Boolean)];
+  }
+
+  /** Selects an item, or some strokes of it, with those that were; of a group all.
    * @param {Item} item @param {Set<number> | null} [parts] */
   add(item, parts = null) {
+    const group = this.hand.parts.ink.kept.groupOf(item);
+    if (group.length > 1) group.forEach((each) => this.addOne(each));
+    else this.addOne(item, parts);
+  }
+
+  /** @param {Item} item @param {Set<number> | null} [parts] */
+  addOne(item, parts = null) {
     const name = nameOf(item.drawings[0]), before = this.hand.selection.has(name) ? this.strokes.get(name)?.parts ?? null : new Set(/** @type {number[]} */ ([]));
     const all = parts && before && new Set([...before, ...parts]);
     item.drawings.forEach((drawing) => this.hand.selection.add(nameOf(drawing)));
@@ -116,6 +130,6 @@ export class Chosen {
 
   /** @param {Item} item */
   remove(item) {
-    item.drawings.forEach((drawing) => this.hand.selection.delete(nameOf(drawing)));
+    for (const { drawings } of this.hand.parts.ink.kept.groupOf(item)) drawings.forEach((drawing) => this.hand.selection.delete(nameOf(drawing)));
   }
 }

@@ -5,7 +5,7 @@ import { $, say, tell } from './dom.js';
 import { inkOf } from './ink.js';
 import { CELL_HIGH, CELL_WIDE } from './inksigns.js';
 import { INK_TOOLS, carriedAll } from './inktools.js';
-import { placed } from './inkwriting.js';
+import { isJoined, placed } from './inkwriting.js';
 import { wording } from './language.js';
 import { MOST_AT_ONCE } from './shapes.js';
 import { TOOLS } from './tools.js';
@@ -68,10 +68,10 @@ export class Hand {
   }
 
   /** An ink as a drawing, at a place of the page that no other has, as far as there are.
-   * @param {string} text @param {boolean} [isAgain] whether it stands for others that are deleted then @returns {Shape} */
-  placed(text, isAgain = false) {
+   * @param {string} text @param {boolean} [isAgain] whether it stands for others that are deleted then @param {boolean} [isJoined] @returns {Shape} */
+  placed(text, isAgain = false, isJoined = false) {
     this.place = Math.max(this.place, this.session.shown.size + this.session.erased.size) + 1;
-    return placed(text, this.place, isAgain);
+    return placed(text, this.place, isAgain, isJoined);
   }
 
   /** The shapes that would be drawn now.
@@ -181,7 +181,7 @@ export class Hand {
     if (shapes.length + doomed.length === 0) return null;
     if (shapes.length > MOST_AT_ONCE) return tell(wording('tooMany', { most: MOST_AT_ONCE })), null;
     const step = this.steps.begin(page);
-    shapes.forEach((shape) => step.draw(shape.op === 'text' && inkOf(shape) ? this.placed(shape.text, isAgain) : shape));
+    shapes.forEach((shape, i) => step.draw(shape.op === 'text' && inkOf(shape) ? this.placed(shape.text, isAgain, i > 0 && isJoined(shape)) : shape));
     doomed.forEach((drawing) => step.hide(drawing));
     return step;
   }

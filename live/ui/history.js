@@ -14,8 +14,9 @@ import { LOCALE, wording } from './language.js';
 /** What one step erased: who, when in microseconds, and the drawings.
  * @typedef {{ by: number, at: number, drawings: Erased[] }} Row */
 
-/** Microseconds of a second. Deletes of one step come within one of one another, also on a slow machine; what a hand erases so soon again is a step with it. */
-const SECOND = 1_000_000;
+/** Microseconds of a second. Deletes of one step come within one of one another, also on a slow machine; what a hand erases so soon again is a step with it.
+ * And those that a hand needs at least from one gesture to the next. */
+const SECOND = 1_000_000, PAUSE = 200_000;
 
 /** How many times as large as a page at a glance the page as it was is. */
 const LARGE = 3;
@@ -43,15 +44,29 @@ export const hasLetters = (drawing) => lettersOf(drawing) !== '';
 /** What was erased of a page, the latest step first. What was drawn anew elsewhere, as by a move, was not erased.
  * @type {(board: Board) => Row[]} */
 export function rowsOf({ drawops, hidden }) {
-  const found = new Map([...drawops, ...hidden].map((drawing) => [nameOf(drawing), drawing])), /** @type {(Row & { last: number, before: string | null, drawn?: Drawing })[]} */ rows = [];
+  const found = new Map([...drawops, ...hidden].map((drawing) => [nameOf(drawing), drawing])), /** @type {(Row & { last: number, before: string | null, drawn: Drawing[] })[]} */ rows = [];
   const erased = hidden.flatMap((drawing) => (drawing.erased ? [{ drawing, by: drawing.erased[0], seq: drawing.erased[1], at: Number(drawing.erased[2]), before: drawing.erased[3] }] : []));
   for (const { drawing, by, seq, at, before } of erased.sort((a, b) => a.by - b.by || a.seq - b.seq)) {
-    const row = rows[rows.length - 1], isMore = row?.by === by && at - row.last <= SECOND && before === 'delete';
+    const row = rows[rows.length - 1], isMore = row?.by === by && at - row.last <= SECOND && before === 'delete' && !isAfter(row, drawing, at);
     if (isMore) [row.last, row.drawings] = [at, [...row.drawings, drawing]];
-    else rows.push({ by, at, last: at, drawings: [drawing], before, drawn: before === null ? undefined : found.get(`${by} ${seq - 1}`) });
+    else rows.push({ by, at, last: at, drawings: [drawing], before, drawn: before === 'delete' ? [] : drawnBefore(found, by, seq) });
   }
-  const isReplaced = (/** @type {typeof rows[0]} */ { before, drawn, drawings }) => before === 'restore' || (drawn && (isAgain(drawn) || drawings.some((each) => isMoved(drawn, each))));
+  const isReplaced = (/** @type {typeof rows[0]} */ { before, drawn: [drawn], drawings }) => before === 'restore' || (drawn && (isAgain(drawn) || drawings.some((each) => isMoved(drawn, each))));
   return rows.filter((row) => !isReplaced(row)).sort((a, b) => b.at - a.at);
+}
+
+/** What one member drew in the place of others just before the number of a delete, the last first, or else the last alone.
+ * @type {(found: Map<string, Drawing>, by: number, seq: number) => Drawing[]} */
+function drawnBefore(found, by, seq) {
+  const /** @type {Drawing[]} */ drawn = [];
+  for (let at = seq - 1, each = found.get(`${by} ${at}`); each && (!drawn.length || isAgain(each)); each = found.get(`${by} ${at -= 1}`)) drawn.push(each);
+  return drawn;
+}
+
+/** Whether a drawing is erased after the step of a row, which drew some in the place of others: it is one of those, or as many are gone, and then came a pause.
+ * @type {(row: { last: number, drawings: Drawing[], drawn: Drawing[] }, drawing: Drawing, at: number) => boolean} */
+function isAfter({ last, drawings, drawn }, drawing, at) {
+  return drawn.length > 0 && (drawn.includes(drawing) || (isAgain(drawn[0]) && drawings.length >= drawn.length && at - last > PAUSE));
 }
 
 /** Whether a plain drawing is another one elsewhere.

@@ -1,5 +1,6 @@
 /** Letters of inks on a canvas: their fonts, their lines, and how wide they are. */
 import { KINDS, isClosed } from './inkkinds.js';
+import { FREE, IN_SHAPES, LEADING, OF_CELLS } from './inkmeasures.js';
 import { CELL_HIGH, CELL_WIDE, SIZES } from './inksigns.js';
 
 /** @typedef {import('./ink.js').Point} Point */
@@ -8,12 +9,6 @@ import { CELL_HIGH, CELL_WIDE, SIZES } from './inksigns.js';
 export const SANS = 'system-ui, "Segoe UI", Roboto, "Helvetica Neue", "Noto Sans", "DejaVu Sans", sans-serif';
 const SERIF = '"STIX Two Text", Cambria, Georgia, "Liberation Serif", "DejaVu Serif", serif';
 export const MONO = 'ui-monospace, "Cascadia Mono", "SF Mono", Menlo, Consolas, "DejaVu Sans Mono", monospace';
-
-/** Of letters in shapes the size; how many times as high a line is as they are large; letters of cells, in units. */
-export const IN_SHAPES = 2, LEADING = 1.28, OF_CELLS = 106;
-
-/** Units that a note, and another shape, keep free at both sides together. */
-const FREE = { note: 110, shape: 70 };
 
 /** Of which font letters are: 0 plain, 1 of one width, 2 a formula.
  * @type {(font: number, size: number) => string} */
@@ -69,8 +64,16 @@ export function standOf(item) {
   const { isPlain, isLink, isNote } = KINDS[kind];
   if (isPlain) return { font: 1, size: OF_CELLS, x: a.x, y: a.y + (CELL_HIGH - OF_CELLS * LEADING) / 2, isMiddle: false };
   if (!isClosed(kind)) return { font: isLink ? 0 : flag, size: SIZES[width], x: a.x, y: a.y, isMiddle: false };
-  if (isNote) return { font: 0, size, x: Math.min(a.x, b.x) + FREE.note / 2, y: Math.min(a.y, b.y) + 60 - size * 0.14, isMiddle: false };
+  if (isNote) return { font: 0, size, x: Math.min(a.x, b.x) + FREE.note / 2, y: Math.min(a.y, b.y) + FREE.above - size * FREE.size, isMiddle: false };
   return { font: 0, size, x: (a.x + b.x) / 2, y: (a.y + b.y) / 2 - (linesOf(item).length * size * LEADING) / 2, isMiddle: true };
+}
+
+/** The lines of an item's letters, each with where it stands: at its left, at its right if it is written from there, or in the middle; and its height there.
+ * @type {(item: Item) => { line: string, x: number, y: number, isFromRight: boolean, align: 'left' | 'right' | 'center' }[]} */
+export function standsOf(item) {
+  const { kind, points: [a, b] } = item, { font, size, x, y, isMiddle } = standOf(item), lines = linesOf(item), isTurned = !isMiddle && lines.some(isFromRight);
+  const right = !isTurned ? x : KINDS[kind].isNote ? x + Math.abs(a.x - b.x) - FREE.note : x + Math.max(...lines.map((line) => widthOf(line, font, size)));
+  return lines.map((line, i) => ({ line, x: isFromRight(line) ? right : x, y: y + (i + 0.5) * size * LEADING, isFromRight: isFromRight(line), align: isMiddle ? 'center' : isFromRight(line) ? 'right' : 'left' }));
 }
 
 /** The box about letters that stand by themselves.

@@ -2,6 +2,7 @@
 import { inkOf } from './ink.js';
 import { isStroke, isTyped } from './inkkinds.js';
 import { CELL_HIGH, CELL_WIDE, OWN } from './inksigns.js';
+import { isJoined, joined } from './inkwriting.js';
 
 /** @typedef {import('./types.js').Drawing} Drawing */
 /** @typedef {import('./types.js').LineShape} LineShape */
@@ -136,6 +137,26 @@ export class Items {
    * @param {number} source @param {number} seq */
   itemOf(source, seq) {
     return this.held(source, seq)?.item ?? undefined;
+  }
+
+  /** The items of the group of an item, in the order of their numbers; the item alone if it is of none.
+   * @param {Item} item @returns {Item[]} */
+  groupOf(item) {
+    const { source } = item, group = [item], before = () => isJoined(group[0].drawings[0]) && this.itemOf(source, group[0].drawings[0].seq - 1);
+    for (let each = before(); each; each = before()) group.unshift(each);
+    const after = () => this.itemOf(source, group[group.length - 1].drawings[group[group.length - 1].drawings.length - 1].seq + 1);
+    for (let each = after(); each && isJoined(each.drawings[0]); each = after()) group.push(each);
+    return group;
+  }
+
+  /** Some items in their order, but for groups: their items follow one another. Each has its drawings, and is joined to the one before it in this list alone.
+   * @param {Item[]} [items] @returns {{ item: Item, drawings: Drawing[] }[]} */
+  inGroups(items = this.list) {
+    const some = new Set(items), all = [...new Set(items.flatMap((item) => this.groupOf(item).filter((each) => some.has(each))))];
+    return all.map((item, i) => {
+      const { source, drawings: [first, ...others] } = item, isAfter = i > 0 && this.itemOf(source, first.seq - 1) === all[i - 1];
+      return { item, drawings: [/** @type {Drawing} */ ({ ...first, ...joined(first, isJoined(first) && isAfter) }), ...others] };
+    });
   }
 
   /** Has all of these shown, and nothing else. Gives what changed of the items.

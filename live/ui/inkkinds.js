@@ -1,4 +1,5 @@
 /** The kinds of ink, and of plain drawings, in one table (docs/INK.md, "The head"): what is asked of a kind anywhere stands here. */
+import { CORNERS, MARKER } from './inkmeasures.js';
 
 /** How a kind is drawn: as points, from end to end, about a box, or as letters. */
 /** @typedef {'stroke' | 'line' | 'closed' | 'letters'} Form */
@@ -9,9 +10,6 @@
  * @typedef {{ form: Form, name: import('./language.js').Key, broad?: number, isUnder?: boolean, isPressed?: boolean, isNote?: boolean, isPlain?: boolean, isLink?: boolean, goesOn?: boolean,
  *   width?: 'width' | 'broad' | 'size', looks?: string[], way?: (x: number, y: number, w: number, h: number) => string,
  *   deep?: (dx: number, dy: number, wide: number, high: number) => number }} Kind */
-
-/** How many times as wide as a stroke a highlighter is. */
-const BROAD = 2.4;
 
 /** What shapes may have. */
 const SHAPE = ['dashed', 'filled', 'full'];
@@ -29,16 +27,16 @@ const deepInFrame = (dx, dy, wide, high) => Math.min(wide - dx, high - dy);
 /** @type {Record<string, Kind>} */
 export const KINDS = {
   s: { form: 'stroke', name: 'writing', goesOn: true, width: 'width' },
-  h: { form: 'stroke', name: 'markerInk', goesOn: true, width: 'broad', broad: BROAD, isUnder: true },
+  h: { form: 'stroke', name: 'markerInk', goesOn: true, width: 'broad', broad: MARKER.wide, isUnder: true },
   v: { form: 'stroke', name: 'writing', goesOn: true, width: 'width', isPressed: true },
   l: { form: 'line', name: 'shape', width: 'width', looks: ['dashed'] },
-  r: { form: 'closed', name: 'shape', width: 'width', looks: SHAPE, way: framed(64), deep: deepInFrame },
+  r: { form: 'closed', name: 'shape', width: 'width', looks: SHAPE, way: framed(CORNERS.frame), deep: deepInFrame },
   o: { form: 'closed', name: 'shape', width: 'width', looks: SHAPE,
     way: (x, y, w, h) => `M${x} ${y + h / 2}A${w / 2} ${h / 2} 0 1 1 ${x + w} ${y + h / 2}A${w / 2} ${h / 2} 0 1 1 ${x} ${y + h / 2}Z`,
     deep: (dx, dy, wide, high) => (1 - Math.hypot(dx / wide, dy / high)) * Math.min(wide, high) },
   d: { form: 'closed', name: 'shape', width: 'width', looks: SHAPE, way: (x, y, w, h) => `M${x + w / 2} ${y}L${x + w} ${y + h / 2}L${x + w / 2} ${y + h}L${x} ${y + h / 2}Z`,
     deep: (dx, dy, wide, high) => (1 - dx / wide - dy / high) * ((wide * high) / Math.hypot(wide, high)) },
-  n: { form: 'closed', name: 'shape', isNote: true, way: framed(24), deep: deepInFrame },
+  n: { form: 'closed', name: 'shape', isNote: true, way: framed(CORNERS.note), deep: deepInFrame },
   t: { form: 'letters', name: 'opText', goesOn: true, width: 'size' },
   k: { form: 'letters', name: 'opText', isLink: true },
   line: { form: 'line', name: 'opLine', isPlain: true },

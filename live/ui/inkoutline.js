@@ -1,5 +1,6 @@
 /** The outline of a stroke whose width changes, as a path that is filled: a ribbon about the curve, with round ends and corners. */
 import { along, bend, distance, isCorner } from './inkcurves.js';
+import { PRESSED } from './inkmeasures.js';
 import { tenth } from './inkpaths.js';
 import { WIDTHS } from './inksigns.js';
 
@@ -13,9 +14,6 @@ const TURN = 0.07, FAR = 160;
 
 /** Places of one step at most. */
 const MOST = 40;
-
-/** How many times as wide as its pen a stroke is under no pressure, and how much more under all. */
-const THIN = 0.4, MORE = 1.2;
 
 /** @type {(a: Point, b: Point, c: Point, d: Point) => number} */
 function turned(a, b, c, d) {
@@ -78,7 +76,7 @@ function round({ x, y }, half) {
 /** The outline of a stroke with pressure.
  * @type {(item: Item) => string} */
 export function outlineOf({ points, width }) {
-  const halfAt = (/** @type {Point} */ { pressure = 0.5 }) => (WIDTHS[width] * (THIN + MORE * pressure)) / 2, starts = points.flatMap(({ up }, i) => (i === 0 || up ? [i] : []));
+  const halfAt = (/** @type {Point} */ { pressure = 0.5 }) => (WIDTHS[width] * (PRESSED.least + PRESSED.more * pressure)) / 2, starts = points.flatMap(({ up }, i) => (i === 0 || up ? [i] : []));
   return starts.map((start, n) => {
     const run = points.slice(start, starts[n + 1]), parts = placesOf(run, halfAt), joints = [run[0], ...parts.map((part) => part[part.length - 1])];
     return parts.map(ribbon).join('') + joints.map((at) => round(at, 'wide' in at ? at.wide : halfAt(at))).join('');

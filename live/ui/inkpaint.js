@@ -1,7 +1,8 @@
 /** Paints items on a canvas, in units: what is on the sheet, what is saved as a picture, and what is not sent yet. */
 import { BRIGHT, DAY, NIGHT } from './colours.js';
-import { LEADING, boxOfLetters, fontOf, isFromRight, linesOf, standOf } from './inkfonts.js';
+import { boxOfLetters, fontOf, standOf, standsOf } from './inkfonts.js';
 import { KINDS, broadOf, fillOf, isClosed, isLetters, isLine, isStroke } from './inkkinds.js';
+import { MARKER, NOTE, TINT } from './inkmeasures.js';
 import { outlineOf } from './inkoutline.js';
 import { dashesOf, wayOf } from './inkpaths.js';
 import { CELL_WIDE, OWN, WIDTHS } from './inksigns.js';
@@ -16,12 +17,6 @@ import { CELL_WIDE, OWN, WIDTHS } from './inksigns.js';
 
 /** How a page is coloured: by day or by night, its own colours, and those of members.
  * @typedef {{ isNight: () => boolean, colours: Record<string, string>, tintOf: (source: number) => string }} Shades */
-
-/** How much a highlighter lets through. */
-export const THIN = 0.45;
-
-/** How much of its colour the inside of a tinted shape has, and of a note by day and by night. */
-export const TINT = 0.22, NOTE = { day: 0.42, night: 0.3 };
 
 /** @type {(a: Box, b: Box) => boolean} */
 export const overlap = (a, b) => a.x0 <= b.x1 && a.x1 >= b.x0 && a.y0 <= b.y1 && a.y1 >= b.y0;
@@ -120,7 +115,7 @@ export class InkPaint {
    * @param {CanvasRenderingContext2D} g @param {Item} item @param {Paint} how */
   paintBroad(g, item, { over, isPicture }) {
     g.globalCompositeOperation = over ? 'source-over' : isPicture ? 'destination-over' : this.shades.isNight() ? 'lighten' : 'multiply';
-    g.globalAlpha = over ? 0.6 : THIN;
+    g.globalAlpha = over ? 0.6 : MARKER.dark;
     g.lineWidth = WIDTHS[item.width] * broadOf(item);
     strokeAll(g, item);
     g.globalAlpha = 1;
@@ -143,15 +138,14 @@ export class InkPaint {
 
   /** @param {CanvasRenderingContext2D} g @param {Item} item @param {string} colour */
   paintLetters(g, item, colour) {
-    const { colours } = this.shades, { font, size, x, y, isMiddle } = standOf(item), { isNote, isLink } = KINDS[item.kind];
+    const { colours } = this.shades, { font, size } = standOf(item), { isNote, isLink } = KINDS[item.kind];
     g.font = fontOf(font, size);
     g.fillStyle = isNote ? colours.ink : fillOf(item) === 2 ? colours.paper : colour;
-    g.textAlign = isMiddle ? 'center' : 'left';
     g.textBaseline = 'middle';
-    linesOf(item).forEach((line, i) => {
-      g.direction = isFromRight(line) ? 'rtl' : 'ltr';
-      g.fillText(line, x, y + (i + 0.5) * size * LEADING);
-    });
+    for (const { line, x, y, isFromRight, align } of standsOf(item)) {
+      [g.direction, g.textAlign] = [isFromRight ? 'rtl' : 'ltr', align];
+      g.fillText(line, x, y);
+    }
     if (!isLink) return;
     const { x0, x1, y1 } = boxOf(item);
     g.fillRect(x0, y1 - size * 0.16, x1 - x0, 5);

@@ -1,6 +1,7 @@
 /** The paths of items, in units, as SVG writes them: a canvas makes a path of its own of each. */
 import { bend } from './inkcurves.js';
 import { KINDS, isClosed, isLine, isStroke } from './inkkinds.js';
+import { DASHES, HEAD } from './inkmeasures.js';
 import { WIDTHS } from './inksigns.js';
 
 /** @typedef {import('./ink.js').Point} Point */
@@ -8,9 +9,6 @@ import { WIDTHS } from './inksigns.js';
 
 /** The corners of a stroke of cells are cut by this many units at most. */
 const CUT = 200;
-
-/** Heads of arrows: how long at least, by how many widths, and how far to each side, in radians. */
-const HEAD = { least: 70, widths: 4.2, side: 0.48 };
 
 /** A number of a path, to a tenth of a unit.
  * @type {(n: number) => number} */
@@ -75,7 +73,7 @@ const closed = ({ kind, points: [a, b] }) => KINDS[kind].way?.(Math.min(a.x, b.x
  * @type {(item: Item) => number[]} */
 export function dashesOf({ kind, flag, width, points: [a, b], drawings: [drawing] }) {
   if (KINDS[kind].isPlain) return drawing.op === 'line' && drawing.glyph === '.' ? [1, 40] : [];
-  const isDashed = Boolean(flag & 4) && KINDS[kind].looks?.includes('dashed') && (isClosed(kind) || Math.hypot(a.x - b.x, a.y - b.y) < 60_000);
-  return isDashed ? [WIDTHS[width] * 3.2, WIDTHS[width] * 2.6] : [];
+  const isDashed = Boolean(flag & 4) && KINDS[kind].looks?.includes('dashed') && (isClosed(kind) || Math.hypot(a.x - b.x, a.y - b.y) < DASHES.most);
+  return isDashed ? [WIDTHS[width] * DASHES.long, WIDTHS[width] * DASHES.gap] : [];
 }
 

@@ -2,9 +2,10 @@
 import { BRIGHT } from './colours.js';
 import { escaped } from './exports.js';
 import { RULED, ruled } from './ground.js';
-import { LEADING, isFromRight, linesOf, standOf } from './inkfonts.js';
+import { standOf, standsOf } from './inkfonts.js';
 import { KINDS, broadOf, fillOf, isLetters } from './inkkinds.js';
-import { NOTE, THIN, TINT, boxAboutAll, inOrder } from './inkpaint.js';
+import { MARKER, NOTE, TINT } from './inkmeasures.js';
+import { boxAboutAll, inOrder } from './inkpaint.js';
 import { outlineOf } from './inkoutline.js';
 import { dashesOf, wayOf } from './inkpaths.js';
 import { CELL_WIDE, SIZES, WIDTHS } from './inksigns.js';
@@ -20,9 +21,10 @@ const FONTS = ['', ' font-family="monospace"', ' font-style="italic" font-family
 
 /** @type {(item: Item, colour: string) => string} */
 function letters(item, colour) {
-  const { font, size, x, y, isMiddle } = standOf(item);
-  return linesOf(item).map((line, i) => `<text x="${x}" y="${Math.round(y + (i + 0.5) * size * LEADING)}" font-size="${size}" dominant-baseline="central" `
-    + `text-anchor="${isMiddle ? 'middle' : isFromRight(line) ? 'end' : 'start'}"${isFromRight(line) ? ' direction="rtl"' : ''}${FONTS[font]} fill="${colour}" stroke="none" xml:space="preserve">${escaped(line)}</text>`).join('');
+  const { font, size } = standOf(item);
+  // a line from right to left has its start at the right
+  return standsOf(item).map(({ line, x, y, isFromRight, align }) => `<text x="${Math.round(x)}" y="${Math.round(y)}" font-size="${size}" dominant-baseline="central" `
+    + `text-anchor="${align === 'center' ? 'middle' : 'start'}"${isFromRight ? ' direction="rtl"' : ''}${FONTS[font]} fill="${colour}" stroke="none" xml:space="preserve">${escaped(line)}</text>`).join('');
 }
 
 /** @type {(item: Item, colour: string, colours: Colours) => string} */
@@ -33,7 +35,7 @@ function part(item, colour, colours) {
   if (isPressed) return `<path d="${outlineOf(item)}" fill="${colour}"/>`;
   const under = isNote ? `<path d="${wayOf(item)}" fill="${colours.paper}"/>` : '', inside = fill ? ` fill="${fill === 2 ? colour : BRIGHT[item.colour] ?? colour}" fill-opacity="${isNote ? NOTE.day : fill === 2 ? 1 : TINT}"` : '';
   return `${under}<path d="${wayOf(item)}" stroke="${isNote ? 'none' : colour}" stroke-width="${WIDTHS[width] * broadOf(item)}"`
-    + `${isUnder ? ` opacity="${THIN}"` : ''}${dashes && ` stroke-dasharray="${dashes}"`}${inside}/>${words}`;
+    + `${isUnder ? ` opacity="${MARKER.dark}"` : ''}${dashes && ` stroke-dasharray="${dashes}"`}${inside}/>${words}`;
 }
 
 /** @type {(items: Item[], paints: { colourOf: (item: Item) => string, shades: { colours: Colours } }, title: string, paper?: import('./notes.js').Paper) => string} */

@@ -7,7 +7,7 @@ import { itemAt, partsAt } from './inkfind.js';
 import { itemsOf } from './inkitems.js';
 import { boxAboutAll } from './inkpaint.js';
 import { CELL_HIGH, CELL_WIDE, PAGE_HIGH, PAGE_WIDE } from './inksigns.js';
-import { keptInks, movedInk, placed, writeShape } from './inkwriting.js';
+import { isJoined, keptInks, movedInk, placed, writeShape } from './inkwriting.js';
 import { gripAt, reshaped, stretchOf, stretched } from './resizing.js';
 
 /** @typedef {import('./types.js').Shape} Shape */
@@ -82,7 +82,7 @@ const writer = (isBroad) => ({
  * @type {(shape: Shape, dx: number, dy: number) => Shape} */
 function carried(shape, dx, dy) {
   const text = shape.op === 'text' && inkOf(shape) ? movedInk(shape.text, dx, dy) : null;
-  if (text) return placed(text, 0);
+  if (text) return placed(text, 0, false, isJoined(shape));
   const [columns, rows] = kept([shape], Math.round(dx / CELL_WIDE), Math.round(dy / CELL_HIGH));
   return shifted(shape, columns, rows);
 }

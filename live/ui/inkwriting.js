@@ -7,6 +7,7 @@ import { CELL_WIDE, FIRST_ROW, FULL_PRESSURE, LIFT_STILL, MOST_SIGNS, PAGE_HIGH,
 
 /** @typedef {import('./ink.js').Point} Point */
 /** @typedef {import('./ink.js').Ink} Ink */
+/** @typedef {import('./types.js').Shape} Shape */
 /** How a stroke is drawn, the finest scale that it needs, and whether its points may lie elsewhere on the curve through them: those of a hand may.
  * Strokes of one text have one nib.
  * @typedef {{ kind: string, colour: number, width: number, scale: number, isFree?: boolean }} Nib */
@@ -257,10 +258,25 @@ export function restyled(text, look) {
 /** Columns of inks in a row, and rows. */
 const COLUMNS = 63, ROWS = 96;
 
-/** The n-th ink of a page, so that none covers another. One that is drawn in the place of others stands a cell further on.
- * @type {(text: string, n: number, isAgain?: boolean) => import('./types.js').Shape} */
-export const placed = (text, n, isAgain = false) => ({ op: 'text', x: CELL_WIDE * (n % COLUMNS) + Number(isAgain), y: FIRST_ROW + (Math.floor(n / COLUMNS) % ROWS), text });
+/** How many cells further on an ink stands that is drawn in the place of others, and one that is of a group with the ink before it of its source. */
+const AGAIN = 1, JOINED = 2;
+
+/** The n-th ink of a page, so that none covers another.
+ * @type {(text: string, n: number, isAgain?: boolean, isJoined?: boolean) => Shape} */
+export const placed = (text, n, isAgain = false, isJoined = false) => ({ op: 'text', x: CELL_WIDE * (n % COLUMNS) + AGAIN * Number(isAgain) + JOINED * Number(isJoined),
+  y: FIRST_ROW + (Math.floor(n / COLUMNS) % ROWS), text });
+
+/** @type {(shape: Shape, mark: number) => boolean} */
+const isMarked = (shape, mark) => shape.op === 'text' && shape.y >= FIRST_ROW && shape.x % CELL_WIDE <= AGAIN + JOINED && (shape.x & mark) > 0;
 
 /** Whether an ink was drawn in the place of others, as by a move.
- * @type {(shape: import('./types.js').Shape) => boolean} */
-export const isAgain = (shape) => shape.op === 'text' && shape.y >= FIRST_ROW && shape.x % CELL_WIDE === 1;
+ * @type {(shape: Shape) => boolean} */
+export const isAgain = (shape) => isMarked(shape, AGAIN);
+
+/** Whether an ink is of a group with the ink before it of its source.
+ * @type {(shape: Shape) => boolean} */
+export const isJoined = (shape) => isMarked(shape, JOINED);
+
+/** An ink that is of a group with the one before it, or is not.
+ * @type {(shape: Shape, is: boolean) => Shape} */
+export const joined = (shape, is) => (shape.op === 'text' && isJoined(shape) !== is ? { ...shape, x: shape.x + (is ? JOINED : -JOINED) } : shape);

@@ -53,6 +53,7 @@ export class Keys {
     else if (key === 'z') this.acts.undo();
     else if (key === 'a') this.hand.selectAll();
     else if (key === 'd' && this.hand.parts.changing.isOn) this.hand.parts.changing.duplicate();
+    else if (key === 'g' && this.hand.parts.changing.isOn) this.hand.parts.changing.group(!isShifted);
     else return false;
     return true;
   }

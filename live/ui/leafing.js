@@ -2,7 +2,7 @@
 import { $ } from './dom.js';
 import { colourFor } from './eraser.js';
 import { rowsOf } from './history.js';
-import { itemsOf } from './inkitems.js';
+import { Items } from './inkitems.js';
 import { recoloured } from './inkwriting.js';
 import { wording } from './language.js';
 import { isGone } from './leaves.js';
@@ -53,8 +53,10 @@ export class Leafing {
     const { session, steps, notes } = this.board, from = await this.read(page), title = session.titles.get(page), copy = from && await session.member.choose(null);
     if (!from || !copy?.ok || !copy.page) return;
     const step = steps.begin(copy.page);
-    // the inks of an item follow one another, so that they are one item again
-    itemsOf(from.drawops).forEach((item) => item.drawings.forEach((drawing) => step.draw(this.copied(drawing, colourFor(item, this.board.hand)))));
+    const items = new Items();
+    items.show(from.drawops);
+    // the inks of an item and the items of a group follow one another, so that they are one again
+    items.inGroups().forEach(({ item, drawings }) => drawings.forEach((drawing) => step.draw(this.copied(drawing, colourFor(item, this.board.hand)))));
     await step.names();
     notes.place(copy.page, page);
     if (title) notes.entitle(copy.page, wording('copyOf', { title }));

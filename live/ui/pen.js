@@ -155,6 +155,7 @@ export class Pen {
     /** @type {Strokes | null} */
     this.strokes = null;
     this.rests = RESTS;
+    this.holds = HELD;
     this.hold = 0;
     this.unseen = 0;
     addEventListener('pagehide', () => this.flush());
@@ -195,7 +196,7 @@ export class Pen {
     const { strokes } = this;
     if (!strokes?.isDown) return;
     clearTimeout(this.hold);
-    this.hold = /** @type {any} */ (setTimeout(() => strokes.straighten() && this.board.painter.soon(), HELD));
+    this.hold = /** @type {any} */ (setTimeout(() => strokes.straighten() && this.board.painter.soon(), this.holds));
     this.unseen += strokes.add(points);
     if (this.unseen < LOOKED_AT) return;
     const { knots, texts } = strokes.open(), full = texts.slice(0, -1).filter(({ upTo }) => upTo + OPEN < knots.length);

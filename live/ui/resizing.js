@@ -5,7 +5,7 @@ import { off } from './inkcurves.js';
 import { KINDS, isClosed, isLetters, isLine, isStroke } from './inkkinds.js';
 import { boxAboutAll, closeBoxOf } from './inkpaint.js';
 import { CELL_HIGH, CELL_WIDE, SIZES } from './inksigns.js';
-import { placed, writeLink, writeShape, writeStroke, writeWords } from './inkwriting.js';
+import { isJoined, placed, writeLink, writeShape, writeStroke, writeWords } from './inkwriting.js';
 
 /** @typedef {import('./types.js').Shape} Shape */
 /** @typedef {import('./ink.js').Point} Point */
@@ -127,4 +127,4 @@ function plain(shape, { to }) {
 /** Items as they are drawn after a stretch.
  * @type {(items: Item[], stretch: Stretch) => Shape[]} */
 export const stretched = (items, stretch) => items.flatMap((item) => (KINDS[item.kind].isPlain
-  ? item.drawings.map((drawing) => plain(drawing, stretch)) : inkTexts(item, stretch).map((text) => placed(text, 0))));
+  ? item.drawings.map((drawing) => plain(drawing, stretch)) : inkTexts(item, stretch).map((text, i) => placed(text, 0, false, !i && item.drawings.slice(0, 1).some(isJoined)))));

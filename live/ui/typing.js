@@ -2,10 +2,11 @@
  * or in a shape. */
 import { SIDE } from './cells.js';
 import { $, tell } from './dom.js';
-import { IN_SHAPES, LEADING, boxOfLetters, fontOf, isFromRight, linesOf, standOf, widthOf } from './inkfonts.js';
+import { boxOfLetters, fontOf, isFromRight, linesOf, standOf, widthOf } from './inkfonts.js';
 import { isClosed } from './inkkinds.js';
+import { FREE, IN_SHAPES, LEADING, NOTE } from './inkmeasures.js';
 import { CELL_WIDE, PAGE_HIGH, SIZES } from './inksigns.js';
-import { placed, writeLink, writeShape, writeWords } from './inkwriting.js';
+import { isJoined, placed, writeLink, writeShape, writeWords } from './inkwriting.js';
 import { wording } from './language.js';
 import { plainOf, writing } from './shapes.js';
 
@@ -72,7 +73,7 @@ export class Typing {
     this.end(true);
     this.typed = typed;
     this.box.value = text;
-    this.box.className = 'letters' in typed ? (isClosed(typed.letters.kind) ? 'shape' : 'ink') : '';
+    this.box.className = 'letters' in typed ? (typed.letters.kind === 'n' ? 'note' : 'ink') : '';
     this.box.removeAttribute('style');
     this.box.hidden = false;
     this.place();
@@ -101,8 +102,8 @@ export class Typing {
     const isNote = kind === 'n', tall = to ? (to.y - start.y) * scale : rows * high + 2, wide = this.wideOf(letters) + size, from = isLeftward ? { x: right - wide, y: start.y } : start;
     Object.assign(box.style, { left: `${from.x * scale - left}px`, top: `${from.y * scale - top}px`, width: `${(to ? to.x - from.x : wide) * scale}px`, height: `${tall}px`,
       font: fontOf(font, size * scale).replace('px', `px/${high}px`), color: isNote ? 'var(--ink)' : style.tintOf(colour),
-      textAlign: to && !isNote ? 'center' : isLeftward ? 'right' : 'left', background: isNote ? `color-mix(in srgb, ${style.brightOf(colour)} 42%, var(--paper))` : 'transparent',
-      padding: isNote ? `${(60 - size * 0.14) * scale}px ${55 * scale}px` : to ? `${Math.max(0, (tall - rows * high) / 2)}px 0 0` : '0' });
+      textAlign: to && !isNote ? 'center' : 'start', background: isNote ? `color-mix(in srgb, ${style.brightOf(colour)} ${100 * NOTE[this.board.painter.isNight() ? 'night' : 'day']}%, var(--paper))` : 'transparent',
+      padding: isNote ? `${(FREE.above - size * FREE.size) * scale}px ${(FREE.note / 2) * scale}px` : to ? `${Math.max(0, (tall - rows * high) / 2)}px 0 0` : '0' });
   }
 
   /** Whether what is typed by itself is written from the right, and so goes on to the left.
@@ -152,7 +153,16 @@ export class Typing {
     if ((old.length ? text === was.trimEnd() : kind === 'n' && !text)) return;
     const shape = kind === 'n' ? [at, this.cornerOf(letters)] : points;
     const texts = link ? [link] : isClosed(kind) ? writeShape(kind, look, flag, shape, text) : writeWords(look, flag, at, text);
-    this.board.hand.change(texts.map((each) => placed(each, 0)), old, { page, isAgain: old.length > 0 });
+    const group = this.groupOf(old), shapes = texts.map((each, i) => placed(each, 0, false, !i && old.slice(0, 1).some(isJoined)));
+    const all = group.length > 1 ? group.flatMap(({ drawings }) => (drawings[0] === old[0] ? shapes : drawings)) : shapes;
+    this.board.hand.change(all, group.length > 1 ? group.flatMap(({ drawings }) => drawings) : old, { page, isAgain: old.length > 0 });
+  }
+
+  /** The group of what is typed anew, if it is there still: all of it is drawn anew.
+   * @param {import('./types.js').Drawing[]} old */
+  groupOf([first]) {
+    const { kept } = this.board.ink, item = first && kept.itemOf(first.source, first.seq);
+    return item && item.drawings[0] === first ? kept.groupOf(item) : [];
   }
 
   /** Says at once which letters cells don't have. They stay until Enter shows what would be drawn in their place. */

@@ -12,7 +12,7 @@ from .broker import Broker, BrokerFault
 from .child import ChildHost, HostEnded
 from .drawings import Delete, Drawing, Drawop, Frame, Line, Name, Page, Restore, Text, drawing_in, drawop_of
 from .host import Host
-from .library import LibraryHost
+from .library import LibraryHost, version
 from .member import Member
 from .program import NoProgram, find_library, find_program
 from .record import RecordedHost
@@ -20,5 +20,5 @@ from .udp import Udp
 
 __all__ = ["Answer", "Became", "Block", "Broker", "BrokerFault", "ChildHost", "Delete", "Drawing", "Drawop", "Fetch", "Frame", "Gap", "Host", "HostEnded",
            "LibraryHost", "Line", "Member", "Name", "NoProgram", "Page", "RecordedHost", "Refused", "Restore", "Text", "Udp", "drawing_in", "drawop_of",
-           "find_library", "find_program", "ink"]
+           "find_library", "find_program", "ink", "version"]
 __version__ = "0.1.0"

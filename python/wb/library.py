@@ -3,6 +3,7 @@ from __future__ import annotations
 
 import ctypes
 import struct
+import subprocess
 import threading
 from typing import Any, Dict, Iterator, List, NoReturn, Optional, Sequence, Tuple
 
@@ -11,7 +12,7 @@ from .blocks import Block, block_of, bytes_of
 from .calls import Lines
 from .child import HostEnded
 from .drawings import Drawop, Page, draft_of, drawop_of
-from .program import NoProgram, find_library
+from .program import NoProgram, find_library, find_program
 
 # what a call of the library answers (include/wb.h)
 DONE, WAITS, NOT_DONE, CLOSED, MEMORY, OPEN, NOTHING = range(7)
@@ -67,6 +68,17 @@ def load(path: Optional[str] = None) -> ctypes.CDLL:
         call = getattr(library, name)
         call.restype, call.argtypes = answer, [HOST, *words]
     return library
+
+
+def version() -> str:
+    """What the library says of itself, in lines: its version, the digest of its sources, and whether they are proved. Where there is none, what the
+    program says: the version at least."""
+    if not find_library():
+        words = [find_program(), "--version"]
+        return subprocess.run(words, stdin=subprocess.DEVNULL, stdout=subprocess.PIPE, stderr=subprocess.STDOUT, check=False).stdout.decode()
+    call = load().wb_version
+    call.restype, call.argtypes = ctypes.c_char_p, []
+    return bytes(call()).decode()
 
 
 class LibraryHost:

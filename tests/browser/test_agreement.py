@@ -15,13 +15,13 @@ from ..node import find_node
 from ..host.program import TOP, program
 from ..facts import Facts
 from ..host import faults
-from ..host.conversations import first_difference, parted
 from ..host.scripts import Writer
 from ..host.sessions import Session, spoiled
-from ..host.test_judged import CONVERSATIONS as JUDGED
+from ..host.test_judged import TRANSCRIPTS as JUDGED
 from ..host.test_judged import JudgedSession
 from ..host.test_kept import DRAWING, KeptSession
 from ..seeds import seeds
+from ..transcripts import first_difference, parted
 
 HERE = Path(__file__).resolve().parent
 
@@ -34,7 +34,7 @@ PATIENCE = 300
 
 # the files of tests/host that a module can pass: others need ends of a process. Lines that are refused stand in a conversation, since a start
 # of Node for each takes minutes
-FILES = [f"tests/host/test_{name}.py" for name in ("lines", "sessions", "records", "documents")]
+FILES = [f"tests/host/test_{name}.py" for name in ("transcripts", "lines", "sessions", "records")]
 
 
 def conversations() -> list[str]:
@@ -79,7 +79,7 @@ def check_lines(facts: Facts, program: str, node: str, module: Path) -> None:
 def kept_conversations() -> list[str]:
     """Conversations of self-managing hosts, at random and with values that were worked out."""
     made = [KeptSession(random.Random(seed)).conversation(200)[0] for seed in range(CONVERSATIONS)]
-    return [*made, *(parted(conversation)[0] for conversation in DRAWING.values())]
+    return [*made, *(parted(it.text)[0] for it in DRAWING)]
 
 
 def check_bytes(facts: Facts, program: str, node: str, module: Path) -> None:
@@ -93,7 +93,7 @@ def check_bytes(facts: Facts, program: str, node: str, module: Path) -> None:
 def judged_conversations() -> list[tuple[str, str]]:
     """Conversations of judged hosts, at random and with values that were worked out, and what each is to print by the model."""
     made = [JudgedSession(random.Random(seed), held=seed % 4).conversation() for seed in seeds(JUDGED_SESSIONS)]
-    return [*made, *(parted(conversation) for conversation in JUDGED.values())]
+    return [*made, *(parted(it.text) for it in JUDGED)]
 
 
 def check_judged(facts: Facts, node: str, module: Path) -> None:

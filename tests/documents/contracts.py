@@ -1,5 +1,5 @@
-"""The tables of docs/proofs: the public calls of each crate with their clauses and the definitions that these name, the files of the definitions,
-and the edits that the prover has to refuse. They are made from the sources; test_contracts.py compares them with the pages.
+"""The tables of docs/proofs: the public calls of each crate with their clauses and the definitions that these name, and the edits that the prover
+has to refuse. They are made from the sources; test_contracts.py compares them with the pages.
 
     python3 -m tests.documents.contracts            # writes the tables anew
     python3 -m tests.documents.contracts wb_gaps    # prints those of a crate
@@ -12,24 +12,16 @@ import sys
 from collections.abc import Iterator
 from pathlib import Path
 
-from .reached import ITEM, File, Module, Name, Stated, clauses_of, named_by, public_items, read_imports, words_of
+from .reached import File, Module, Name, Stated, clauses_of, named_by, public_items, read_imports, words_of
 from .sources import CRATES, TOP, crates_below, is_tests
 
 BEGIN = "<!-- made by: python3 -m tests.documents.contracts -->"
-LONGEST_ROW = 160
+# how long a row may be as it is shown, without where its links lead
+LONGEST_ROW = 180
+LINKS = r"(?<=\])\([^)]*\)"
 # the heads of clauses that a table has; how a value is viewed, and what its type owes to a trait, is left out
 SHOWN = ("ensures", "requires", "invariant", "ghost Value")
-CALLS = "| Call, type or law | Its clauses, each with the definitions that it names |\n|---|---|"
-FILES = "| File | Definitions that these clauses name |\n|---|---|"
-EDITS = "| Edit that must fail | What it changes | What refuses it |\n|---|---|---|"
-REFUSED_BY = (
-    (r"^(\w+)-requires(?:-.*)?-clause-(\w+)$", r"`\2`, which \1 requires"),
-    (r"^(?:.*-)?clause-(\w+)$", r"`\1`"),
-    (r"^invariant_of-.*$", "what its type says"),
-    (r"^loop-.*-smaller$", "its loop ends"),
-    (r"^loop-.*$", "what its loop keeps"),
-    (r"^returns.*$", "what it returns"),
-)
+HEAD = "| Of | Clauses |\n|---|---|"
 
 
 def page_of(crate: str) -> Path:
@@ -40,125 +32,87 @@ def crates() -> list[str]:
     return [it for it in crates_below() if not is_tests(it)]
 
 
-def stated(crate: str) -> Iterator[tuple[str, str, set[Name]]]:
-    """What callers of a crate see: each clause with the call or type that has it, and the definitions that it names."""
+def stated(crate: str) -> Iterator[tuple[str, str, str, set[Name]]]:
+    """What callers of a crate see: each clause with the type, or the kind, and the call that has it, and the definitions that it names."""
     items = public_items(crate)
     for path in sorted((CRATES / crate / "src").rglob("*.rt")):
         text, module = path.read_text(), Module()
         read_imports(text, module)
         for it in clauses_of(text, items):
             if it.is_seen and it.head.startswith(SHOWN):
-                names = named_by(words_of(it.text), None, module)
-                yield label_of(it, text), it.head, {name for name in names if is_told(it.head, name[1])}
+                names = {name for name in named_by(words_of(it.text), None, module) if is_told(it.head, name[1])}
+                if names or it.head.startswith(SHOWN[:3]):
+                    yield (*place_of(it, text), it.head, names)
 
 
-def label_of(it: Stated, text: str) -> str:
-    if it.type and it.type != it.owner:
-        return f"`{it.type}::{it.owner}`"
+def place_of(it: Stated, text: str) -> tuple[str, str]:
+    """The type that has a clause, or else "laws" or "calls", and its call."""
+    if it.type:
+        return f"`{it.type}`", "its value" if it.type == it.owner else f"`{it.owner}`"
     body = re.compile(r"^\{\s*(\}?)", re.MULTILINE).search(text, text.find(f"pub fn {it.owner}"))
-    return f"law `{it.owner}`" if body and body[1] else f"`{it.owner}`"
+    return "laws" if body and body[1] else "calls", f"`{it.owner}`"
 
 
 def is_told(head: str, name: str) -> bool:
-    """Whether a table has it: the record that stands for the values of a type has its row alone."""
+    """Whether a table has it: the record that stands for the values of a type is named with the type alone."""
     return head.startswith("ghost") or not name.endswith("Value")
 
 
-def told(head: str, names: set[Name]) -> str:
-    """A clause as a table has it."""
-    word = re.sub(r"^ensures ?|^ghost ", "", head).replace(" =", "").lower()
-    defined = ", ".join(f"`{name}`" for name in sorted({name for _, name in names}))
-    return f"{word}: {defined}" if word and defined else word or defined
+def told(crate: str, head: str, names: set[Name], linked: set[File]) -> str:
+    """A clause as a table has it. The first definition of each file on the page is a link."""
+    word = re.sub(r"^ensures ?|^ghost Value", "", head).replace(" =", "")
+    return " ".join([word, *(definition(crate, name, linked) for name in sorted(names))]).strip()
 
 
-def rows(first: str, parts: list[str]) -> Iterator[str]:
-    """The rows that have these parts, none of them long."""
+def definition(crate: str, name: Name, linked: set[File]) -> str:
+    (home, path), item = name
+    label = f"`{path}.{item}`" if home == crate else f"`{home}.{path}.{item}`"
+    if name[0] in linked:
+        return label
+    linked.add(name[0])
+    return f"[{label}](../../crates/{home}/specs/{path.replace('.', '/')}.antt)"
+
+
+def rows(first: str, members: list[str]) -> Iterator[str]:
+    """The rows that have these members, none of them long: each begins one unless it fits in whole."""
     line = ""
-    for part in parts:
-        if line and len(first) + len(line) + len(part) > LONGEST_ROW:
-            yield f"| {first} | {line} |"
-            first, line = "", ""
-        line = f"{line}; {part}" if line else part
+    for member in members:
+        line = f"{line}; {member}" if line else member
+        if width(first, line) > LONGEST_ROW and line != member:
+            yield f"| {first} | {line[:-len(member) - 2]} |"
+            first, line = "", member
+        while width(first, line) > LONGEST_ROW:
+            words = line.split(" ")
+            most = max(1, *(count for count in range(1, len(words)) if width(first, " ".join(words[:count])) <= LONGEST_ROW))
+            yield f"| {first} | {' '.join(words[:most])} |"
+            first, line = "", " ".join(words[most:])
     yield f"| {first} | {line} |"
 
 
-def calls_table(crate: str) -> str:
-    """A row for each call whose clauses have names or name definitions, and then all others in one."""
-    calls: dict[str, list[str]] = {}
-    for label, head, names in stated(crate):
-        calls.setdefault(label, []).append(told(head, names))
-    lines = [row for label, parts in calls.items() if any(parts) for row in rows(label, [it or "one of no name" for it in parts])]
-    plain = [label for label, parts in calls.items() if not any(parts)]
-    lines += list(rows("the others", plain)) if plain else []
-    return "\n".join([CALLS, *lines]) if lines else ""
+def width(*cells: str) -> int:
+    """How long a row of these cells is as it is shown."""
+    return sum(len(re.sub(LINKS, "", it)) for it in cells)
 
 
-def files_table(crate: str) -> str:
-    """A row for each file of definitions, that of this crate first."""
-    files: dict[File, set[str]] = {}
-    for _, _, names in stated(crate):
-        for file, name in names:
-            files.setdefault(file, set()).add(name)
-    order = sorted(files, key=lambda file: (file[0] != crate, file))
-    lines = []
-    for file in order:
-        path = file[1].replace(".", "/")
-        label = path if file[0] == crate else f"{file[0]} {path}"
-        link = f"[{label}](../../crates/{file[0]}/specs/{path}.antt)"
-        lines += [row.replace(";", ",") for row in rows(link, [f"`{it}`" for it in sorted(files[file])])]
-    return "\n".join([FILES, *lines]) if lines else ""
-
-
-def function_of(text: str, at: int) -> str:
-    """The function of a source that has this place, with its type; empty if none has."""
-    kept, owner = "", ""
-    for item in re.finditer(ITEM, text, re.MULTILINE):
-        if item.start() > text.find("\n", at) >= 0:
-            break
-        word = re.match(r"\W*(\w+)", item["rest"])
-        if item["kind"] == "impl":
-            kept, owner = "", re.sub(r"^\s*<[^>]*>", "", item["rest"]).split(" for ")[-1].split("<")[0].strip(" {")
-        elif item["kind"] == "fn" and word:
-            kept = f"{owner}::{word[1]}" if item["indent"] and owner else word[1]
-        elif not item["indent"]:
-            kept, owner = "", ""
-    return kept
-
-
-def changed_by(edit: Path) -> str:
-    """The first function that an edit changes, or else its first file."""
-    file, first = "", ""
-    texts: dict[str, str] = {}
-    for line in edit.read_text().splitlines():
-        key, _, value = line.partition(": ")
-        if key == "file":
-            file = value.strip()
-            texts.setdefault(file, (edit.parent.parent / file).read_text())
-            first = first or file
-        elif key == "old" and file.startswith("src/") and value in texts[file]:
-            function = function_of(texts[file], texts[file].index(value))
-            if function:
-                return function
-    return first
-
-
-def refused_by(edit: Path) -> str:
-    goal = re.search(r"^# goal: (.+)$", edit.read_text(), re.MULTILINE)
-    for pattern, words in REFUSED_BY:
-        if goal and re.match(pattern, goal[1]):
-            return re.sub(pattern, words, goal[1])
-    return "its goal"
-
-
-def edits_table(crate: str) -> str:
-    edits = sorted((CRATES / crate / "must-fail").glob("*.edit"))
-    return "\n".join([EDITS, *(f"| `{it.stem}` | `{changed_by(it)}` | {refused_by(it)} |" for it in edits)]) if edits else ""
+def clauses(crate: str) -> dict[str, dict[str, list[str]]]:
+    """Of each type, and of calls and laws of none, the calls with their clauses. Each definition stands at the first clause that names it."""
+    found: dict[str, dict[str, list[str]]] = {}
+    linked: set[File] = set()
+    before: set[Name] = set()
+    for group, call, head, names in stated(crate):
+        found.setdefault(group, {}).setdefault(call, []).append(told(crate, head, names - before, linked))
+        before |= names
+    return found
 
 
 def tables(crate: str) -> str:
     """All that a page has after its prose."""
-    found = [it for it in (calls_table(crate), files_table(crate), edits_table(crate)) if it]
-    return "\n\n".join([BEGIN, *found]) + "\n"
+    lines = [BEGIN, "", HEAD]
+    for group, members in clauses(crate).items():
+        lines += rows(group, [f"{it}: {', '.join(filter(None, of))}".rstrip(": ") for it, of in members.items()])
+    edits = sorted(it.stem for it in (CRATES / crate / "must-fail").glob("*.edit"))
+    lines += rows("edits that must fail", [f"`{it}`" for it in edits]) if edits else []
+    return "\n".join(lines) + "\n"
 
 
 def prose_of(crate: str) -> str:

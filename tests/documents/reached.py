@@ -269,7 +269,7 @@ def headline_list() -> str:
     """The files that the headline reaches, a line for each crate, as PROOFS lists them."""
     files = {name[0] for name in reach(headline_roots())}
     names = {crate: [path.replace(".", "/") for other, path in sorted(files) if other == crate] for crate in crates_below()}
-    return "\n".join(f"| {crate} | {', '.join(its)} |" for crate, its in names.items() if its)
+    return "\n".join(f"{crate}: {', '.join(its)}" for crate, its in names.items() if its)
 
 
 def main() -> None:

@@ -42,6 +42,10 @@ PATTERNS = {re.compile(pattern.replace(" ", r"\s+"), re.MULTILINE): plainer for 
 PLAIN = [short(document) for document in DOCUMENTS]
 LONGEST_LINE = 100
 
+# the pages of the repository, those of packages, examples and tests with them, and the most words of all outside code: of sentences, and with tables
+PAGES = [*DOCUMENTS, *(it for folder in ("python", "javascript", "examples/*", "tests/*") for it in sorted(TOP.glob(f"{folder}/*.md")))]
+MOST_WORDS = 40_000, 60_000
+
 # where comments are plain, of each the first line
 COMMENTED = [
     *("examples", "javascript", "lab", "live", "python", "tests", "tools", "web"),
@@ -108,6 +112,12 @@ def comments_of_lines(source: str) -> Iterator[tuple[int, str]]:
         was_comment = bool(comment)
 
 
+def words_of(text: str) -> tuple[int, int]:
+    """How many words of a page stand in sentences, and how many with those of its tables."""
+    lines = without_code(text).split("\n")
+    return sum(len(line.split()) for line in lines if not line.startswith("|")), sum(len(line.split()) for line in lines)
+
+
 def is_python(path: Path, source: str) -> bool:
     return path.suffix == ".py" or source.startswith("#!/usr/bin/env python3")
 
@@ -147,6 +157,12 @@ COMMENTS = sorted({path for part in COMMENTED for path in [TOP / part, *(TOP / p
 def test_page(page: str) -> None:
     text = (TOP / page).read_text()
     nothing_is_wrong(bad_english(without_code(text)) + long_lines(text))
+
+
+def test_few_words() -> None:
+    counts = {short(page): words_of(page.read_text()) for page in PAGES}
+    found = sum(few for few, _ in counts.values()), sum(all_ for _, all_ in counts.values())
+    assert found[0] <= MOST_WORDS[0] and found[1] <= MOST_WORDS[1], f"{found}, and no more than {MOST_WORDS}: {counts}"
 
 
 def test_comments() -> None:

@@ -20,7 +20,7 @@ EDITS = sorted(TOP.glob("crates/*/must-fail/*.edit"))
 MOST = 179
 REFUSED = "refused, as it must be"
 # crates of which each edit was tried without its clauses; add the others as they are
-TRIED = ("wb_codec", "wb_display", "wb_filters", "wb_gaps", "wb_member", "wb_names", "wb_policy", "wb_words")
+TRIED = ("wb_codec", "wb_digest", "wb_display", "wb_filters", "wb_gaps", "wb_member", "wb_names", "wb_policy", "wb_recovery", "wb_words")
 
 
 def crate_of(edit: Path) -> str:

@@ -138,7 +138,7 @@ def build_plain(room: str) -> Optional[str]:
         print("without a program in plain Rust beside it, for there is no rustc here (apt-get install rustc)")
         return None
     program = f"{room}/run_plain"
-    subprocess.run(["rustc", "--edition", "2024", "-C", "opt-level=3", "-o", program, str(Path(__file__).with_name("run_plain.rs"))], check=True)
+    subprocess.run(["rustc", "--edition", "2024", "-C", "opt-level=3", "-o", program, str(Path(__file__).resolve().parents[2] / "figures/run_plain.rs")], check=True)
     return program
 
 

@@ -7,7 +7,7 @@ import random
 
 import pytest
 
-from .conversations import first_difference
+from ..transcripts import first_difference
 from .program import host
 from .sessions import Session
 from .test_judged import JudgedSession

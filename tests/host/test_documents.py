@@ -1,4 +1,4 @@
-"""What people read: the conversations of the pages on hosts, and the example of a driver."""
+"""What people read: the help, and the example of a driver."""
 
 from __future__ import annotations
 
@@ -8,8 +8,7 @@ import sys
 
 import pytest
 
-from .conversations import documented, first_difference, parted
-from .program import PATIENCE, TOP, host, program
+from .program import PATIENCE, TOP, program
 
 SENT = """\
 0.000 s  member 1 send draw 1 1/1 1 0 frame 0 0 25 4 #
@@ -34,9 +33,6 @@ PAGE = """\
 ##########################
 """
 
-# pages with conversations, and how many each has at least
-PAGES = {"docs/HOST.md": 1, "docs/HOST-LINES.md": 2}
-
 
 def test_example() -> None:
     """Two hosts hold a session, and both show the page in the end. Its moments follow from the seeds of its boards."""
@@ -46,22 +42,6 @@ def test_example() -> None:
     want = f"{SENT}both show\n{PAGE}"
     assert (ended.returncode, ended.stderr) == (0, ""), "examples/session.py"
     assert ended.stdout == want, "what examples/session.py prints"
-
-
-def conversations() -> list[tuple[str, int, str]]:
-    return [(page, place, it) for page in PAGES for place, it in enumerate(documented((TOP / page).read_text()), 1)]
-
-
-@pytest.mark.parametrize("conversation", [pytest.param(it, id=f"{page}-{place}") for page, place, it in conversations()])
-def test_conversation(conversation: str) -> None:
-    """It is what the program answers."""
-    given, printed = parted(conversation)
-    assert first_difference(given, host(given), printed) == ""
-
-
-@pytest.mark.parametrize("page, least", PAGES.items())
-def test_page_has_conversations(page: str, least: int) -> None:
-    assert len(documented((TOP / page).read_text())) >= least
 
 
 @pytest.mark.parametrize("words", [["host", "--help"], ["--help"]], ids=" ".join)

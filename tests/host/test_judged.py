@@ -9,15 +9,15 @@ import pytest
 
 from ..judging import reference
 from ..seeds import seeds
-from . import datagrams
-from .conversations import JUDGED_HOST, documented, first_difference, parted
+from . import datagrams, test_kept
+from ..transcripts import JUDGED_HOST, first_difference, parted, read
 from .datagrams import Echo, Words, drawop, session
 from .judged import Judged, paged
 from .model import Drawop, Name
 from .policy import AskPages, Datagram, Kept, Message, Refused, Request, State, digits_of
-from .program import TOP, close, host
+from .program import close, host
 from .sessions import ME, MEMBERS, NUMBERS, PAGES, Session
-from .test_kept import ACTING, FORGED, PAGE, QUESTION, REPORT, SEED, TURN, asked_at, questions
+from .test_kept import ACTING, FORGED, PAGE, QUESTION, REPORT, SEED, TURN, WRITTEN, asked_at
 
 LINES = 300
 WALL = 1_764_000_000_000_000  # the time of day at the moment 0
@@ -32,8 +32,7 @@ def judge(listen: int = 0, cells: int = 1024, here: str = "-", strangers: str = 
     return f"""> board 1 {cells} 1 {SEED}
 ok never
 > judge 0 4000 {listen} {WALL} {here} {strangers}
-ok {QUESTION}
-"""
+ok {QUESTION}"""
 
 
 def answer(member: int) -> str:
@@ -45,337 +44,7 @@ def drawn(time: int, words: str = "line 0 0 4 0 *", source: int = 7, number: int
     return f"draw {source} 7/1 {number} {time} {words}"
 
 
-CONVERSATIONS = {
-    "it draws, and records that before it is sent": f"""
-{judge()}> add 1000 7/1 line 0 0 4 0 *
-record tick 1000
-record say draw 1 7/1 1 {WALL + 1000} line 0 0 4 0 *
-drew 7 1 1 1
-send {drawop(1, PAGE, 1, WALL + 1000, STROKE)}
-became new
-ok {QUESTION}
-> wall 1500 {WALL + DAY}
-ok {QUESTION}
-> add 2000 7/1 delete 1 1
-record tick 2000
-record say draw 1 7/1 2 {WALL + DAY + 500} delete 1 1
-drew 7 1 1 2
-send {drawop(1, PAGE, 2, WALL + DAY + 500, datagrams.delete(1, 1))}
-became new
-ok {QUESTION}
-> view 7 1
-view 0
-ok {QUESTION}
-""",
-    "what a stranger gives is recorded in words, and a copy is dropped": f"""
-{judge()}> came 10 5 {STARS}
-record tick 10
-record {drawn(WALL)}
-drew 7 1 7 1
-became new
-ok {QUESTION}
-> came 11 5 {STARS}
-dropped again
-ok {QUESTION}
-> came 12 6@9 {STARS.upper()}
-dropped again
-ok {QUESTION}
-> came 13 5 5742
-dropped datagram
-ok {QUESTION}
-> came 14 5 {drawop(7, PAGE, 2, WALL + 60_000_015, STROKE)}
-dropped ahead
-ok {QUESTION}
-> came 14 5 {datagrams.request(9, 7, PAGE, 3)}
-dropped stranger
-ok {QUESTION}
-> came 15 5 {drawop(1, PAGE, 1, WALL, STROKE)}
-dropped own
-ok {QUESTION}
-> came 15 5 {session(1, 77, PAGE, [], [])}
-dropped own
-ok {QUESTION}
-> list 9
-list 1
-7 1 1
-ok {QUESTION}
-> members
-members 0
-ok {QUESTION}
-""",
-    "who answers is a member: what it gave is recorded once more, in hexadecimal; under our own number it is a twin": f"""
-{judge()}> came 10 5 {STARS}
-record tick 10
-record {drawn(WALL)}
-drew 7 1 7 1
-became new
-ok {QUESTION}
-{questions()}> tick {REPORT}
-send {session(1, REPORT, PAGE, [(7, 1)], [])}
-ok {LATER}
-> came {REPORT + 10} 5 {answer(8)}
-record tick {REPORT + 10}
-record datagram {STARS}
-ok {LATER}
-> members
-members 1
-member 8 5 {REPORT + 10} {REPORT + 10}
-ok {LATER}
-> came {REPORT + 20} 5 {drawop(9, PAGE, 1, WALL + DAY, STROKE)}
-record tick {REPORT + 20}
-record datagram {drawop(9, PAGE, 1, WALL + DAY, STROKE)}
-drew 7 1 9 1
-became new
-ok {LATER}
-> came {REPORT + 30} 6 {answer(8)}
-ok {LATER}
-> came {REPORT + 40} 5 {session(8, 6, PAGE, [], [])}
-dropped speaks
-ok {LATER}
-> came {REPORT + 50} 6 {answer(1)}
-dropped own
-warn twin
-ok {LATER}
-> add {REPORT + 60} 7/1 line 0 0 4 0 *
-refused twin
-> came {REPORT + 70} 6 {answer(1)}
-dropped own
-ok {LATER}
-""",
-    "who lacks much takes a stream of a member": f"""
-{judge()}{questions()}> tick {REPORT}
-send {session(1, REPORT, (0, 0), [], [])}
-ok {LATER}
-> came {REPORT} 5@6 {session(8, 5, PAGE, [(1, 9), (7, 499)], [(1, REPORT, 0)])}
-warn mark
-ok {min(LATER, *NEAR)}
-> came {REPORT} 5@6 {session(8, 5, PAGE, [(7, 500)], [(1, REPORT, 0)])}
-fetch 5@6 500
-ok {min(LATER, *NEAR, asked_at(REPORT, 2, 17_656))}
-""",
-    "strangers have their share, and a full board has room for their drawings no more": f"""
-{judge(cells=64, strangers="1")}> came 10 5 {STARS}
-record tick 10
-record {drawn(WALL)}
-drew 7 1 7 1
-became new
-ok {QUESTION}
-> came 11 6 {drawop(8, PAGE, 1, WALL, STROKE)}
-dropped share
-warn share
-ok {QUESTION}
-""",
-    "of two owners a number is the one's that spoke under it first": f"""
-{judge(here="9")}> came 1 5@9 {session(8, 5, PAGE, [], [])}
-ok {QUESTION}
-> came 2 6@10 {session(8, 5, PAGE, [], [])}
-dropped speaks
-warn speaks 8
-ok {QUESTION}
-> came 3 6@10 {datagrams.ask_pages(1)}
-dropped speaks
-warn speaks 1
-ok {QUESTION}
-> came 4 7@9 {datagrams.ask_pages(1)}
-dropped own
-ok {QUESTION}
-> members
-members 1
-member 8 5@9 - 1
-ok {QUESTION}
-> gone 5 5@9
-ok {QUESTION}
-> members
-members 0
-ok {QUESTION}
-> came 6 6@10 {session(8, 5, PAGE, [], [])}
-ok {QUESTION}
-""",
-    "while it listens, it draws nothing, and marks of ours are recorded": f"""
-{judge(listen=300)}> add 299 7/1 line 0 0 4 0 *
-refused listening
-> came 299 5 {session(8, 5, PAGE, [(1, 65_537)], [])}
-dropped mark
-warn mark
-ok {QUESTION}
-> came 299 5 {session(8, 5, PAGE, [(1, 40)], [])}
-record tick 299
-record page-state 8 7/1 1=40
-ok {asked_at(299, 0)}
-> came 299 5 {datagrams.page_state(8, PAGE, [(1, 39)])}
-ok {asked_at(299, 0)}
-> next 7 1
-next 41
-ok {asked_at(299, 0)}
-""",
-    "a record is handed in, line by line": f"""
-{judge()}> held # wb 0.1.0
-ok {QUESTION}
-> held board 1 16 1 42
-ok {QUESTION}
-> held{' '}
-ok {QUESTION}
-> held tick 99
-ok {QUESTION}
-> held say {drawn(WALL + 5, source=1)}
-drew 7 1 1 1
-became new
-ok {QUESTION}
-> held datagram {STARS}
-drew 7 1 7 1
-became new
-ok {QUESTION}
-> held datagram {STARS}
-became again
-ok {QUESTION}
-> held {drawn(WALL, 'text 1 1 "a"', 8)}
-drew 7 1 8 1
-became new
-ok {QUESTION}
-> held page-state 9 7/1 1=9
-ok {asked_at(0, 0)}
-> next 7 1
-next 2
-ok {asked_at(0, 0)}
-> view 7 1
-view 3
-{drawn(WALL)}
-{drawn(WALL, 'text 1 1 "a"', 8)}
-{drawn(WALL + 5, source=1)}
-ok {asked_at(0, 0)}
-""",
-    "a page is painted behind marks, so that no row looks like the end of a block": f"""
-{judge()}> add 1 7/1 text 0 0 "ok 5"
-record tick 1
-record say draw 1 7/1 1 {WALL + 1} text 0 0 "ok 5"
-drew 7 1 1 1
-send {drawop(1, PAGE, 1, WALL + 1, datagrams.text(0, 0, "ok 5"))}
-became new
-ok {QUESTION}
-> paint 7 1 5 2
-paint 2
-|ok 5 
-|     
-ok {QUESTION}
-> paint 7 2 1 1
-paint 1
-| 
-ok {QUESTION}
-""",
-    "what a page shows otherwise than it did: taken off by name, and put in by place": f"""
-{judge()}> held datagram {drawop(7, PAGE, 1, 20, STROKE)}
-drew 7 1 7 1
-became new
-ok {QUESTION}
-> held datagram {drawop(7, PAGE, 2, 30, STROKE)}
-drew 7 1 7 2
-became new
-ok {QUESTION}
-> held datagram {drawop(8, (7, 2), 1, 25, STROKE)}
-drew 7 2 8 1
-became new
-ok {QUESTION}
-> since 7 1 0
-since 3 2
-shown 0 draw 7 7/1 1 20 line 0 0 4 0 *
-shown 1 draw 7 7/1 2 30 line 0 0 4 0 *
-ok {QUESTION}
-> held datagram {drawop(8, PAGE, 1, 25, STROKE)}
-drew 7 1 8 1
-became new
-ok {QUESTION}
-> since 7 1 3
-since 4 1
-shown 1 draw 8 7/1 1 25 line 0 0 4 0 *
-ok {QUESTION}
-> held datagram {drawop(8, PAGE, 2, 40, datagrams.delete(7, 1))}
-drew 7 1 8 2
-became new
-ok {QUESTION}
-> since 7 1 4
-since 5 1
-hidden 7 1
-ok {QUESTION}
-> held datagram {drawop(8, PAGE, 3, 50, datagrams.restore(7, 1))}
-drew 7 1 8 3
-became new
-ok {QUESTION}
-> since 7 1 4
-since 6 2
-hidden 7 1
-shown 0 draw 7 7/1 1 20 line 0 0 4 0 *
-ok {QUESTION}
-> since 7 2 6
-since 6 0
-ok {QUESTION}
-> since 7 1 4294967295
-since 6 0
-ok {QUESTION}
-""",
-    "what is missing is counted: numbers below the greatest that is held or was heard of, and what is requested above": f"""
-{judge()}> lacks 7 1
-lacks 0
-ok {QUESTION}
-> held datagram {drawop(7, PAGE, 4, WALL, STROKE)}
-drew 7 1 7 4
-became new
-ok {asked_at(0, 0)}
-> lacks 7 1
-lacks 3
-ok {asked_at(0, 0)}
-> lacks 7 2
-lacks 0
-ok {asked_at(0, 0)}
-""",
-    "a datagram is said in words, whosever it is, and nothing is done about it": f"""
-{judge()}> words {drawop(7, PAGE, 1, WALL, datagrams.text(1, 2, 'say "hi"'))}
-words draw 7 7/1 1 {WALL} text 1 2 "say \\"hi\\""
-ok {QUESTION}
-> words {session(9, 50, PAGE, [(7, 1), (9, 3)], [(8, 100, 50)])}
-words session-message 9 50 7/1 7=1 9=3 8@100+50
-ok {QUESTION}
-> words {datagrams.request(2, 7, PAGE, 4)}
-words request 2 7 7/1 4
-ok {QUESTION}
-> words 574201040000000400000002
-words ask-pages 2
-ok {QUESTION}
-> words {datagrams.page_state(9, PAGE, [(8, 4)])}
-words page-state 9 7/1 8=4
-ok {QUESTION}
-> words 5742
-refused datagram 1
-> since 7 1 0
-since 0 0
-ok {QUESTION}
-""",
-    "its timers are given other constants, and questions are answered as at any host": f"""
-{judge()}> tuning 3 16 1 11
-ok {QUESTION}
-> show 7 1 2 1
-
-ok {QUESTION}
-> gaps 7 1
-gaps 0
-ok {QUESTION}
-> report 7 1
-report 0
-ok {QUESTION}
-> pages
-pages 0
-ok {QUESTION}
-> known
-known 0
-ok {QUESTION}
-> version
-version 1
-ok {QUESTION}
->
-ok {QUESTION}
-> # nothing
-ok {QUESTION}
-""".replace("2 1\n\nok", "2 1\n  \nok"),
-}
+TRANSCRIPTS = read(WRITTEN / "judged.md", JUDGED_HOST, {**vars(test_kept), **globals()})
 
 # lines and their faults, as they are read at every host
 MISTYPED_JUDGE = {
@@ -465,19 +134,6 @@ def blocks(printed: str) -> list[str]:
             found.append(block)
             block = ""
     return [*found, block] if block else found
-
-
-@pytest.mark.parametrize("title", CONVERSATIONS)
-def test_conversation(title: str) -> None:
-    given, wanted = parted(CONVERSATIONS[title])
-    assert first_difference(given, host(given), wanted) == ""
-
-
-@pytest.mark.parametrize("page", ["HOST.md", "HOST-LINES.md"])
-def test_documented(page: str) -> None:
-    [conversation] = documented((TOP / "docs" / page).read_text(), JUDGED_HOST)
-    given, wanted = parted(conversation)
-    assert first_difference(given, host(given), wanted) == ""
 
 
 def test_refused() -> None:

@@ -11,7 +11,7 @@ import pytest
 
 from ..seeds import seeds
 from . import datagrams
-from .conversations import first_difference, parted
+from ..transcripts import HOST, first_difference, read
 from .datagrams import Echo, Mark, Page, Words, drawn, drawop, session
 from .model import Drawop, Name
 from .policy import COST, AskPages, Datagram, Kept, Message, Refused, Request, State, digits_of
@@ -51,8 +51,7 @@ def kept(listen: int = 0, cells: int = 100, rate: int = 4000) -> str:
     return f"""> board 1 {cells} 1 {SEED}
 ok never
 > keep {rate} {listen}
-ok {QUESTION}
-"""
+ok {QUESTION}"""
 
 
 def questions() -> str:
@@ -61,8 +60,7 @@ send {datagrams.ask_pages(1)}
 ok {AGAIN}
 > tick {AGAIN}
 send {datagrams.ask_pages(1)}
-ok {REPORT}
-"""
+ok {REPORT}"""
 
 
 def report(now: int, page: Page, marks: list[Mark], echoes: list[Echo]) -> str:
@@ -76,295 +74,11 @@ def dot(source: int, page: Page, seq: int, time: int = 1) -> str:
 STROKE = datagrams.line(0, 0, 4, 0, "*")
 NEAR = [asked_at(100, word) for word in (0, 1)]
 
-DRAWING = {
-    "it draws": f"""
-{kept()}> add 500 11 7/1 text 0 0 "hi"
-send {OURS}
-ok {QUESTION}
-> add 500 5 7/1 delete 1 1
-send {drawop(1, PAGE, 2, 12, datagrams.delete(1, 1))}
-ok {QUESTION}
-> add 501 13 6/9 line 0 0 4 0 *
-send {drawop(1, (6, 9), 1, 13, STROKE)}
-ok {QUESTION}
-> next 7 1
-next 3
-ok {QUESTION}
-> view 7 1
-view 0
-ok {QUESTION}
-> report 7 1
-report 1
-1 2
-ok {QUESTION}
-> pages
-pages 2
-6 9
-7 1
-ok {QUESTION}
-> known
-known 2
-6 9
-7 1
-ok {QUESTION}
-> gaps 7 1
-gaps 0
-ok {QUESTION}
-> show 6 9 5 1
-*****
-ok {QUESTION}
->
-ok {QUESTION}
-> # nothing
-ok {QUESTION}
-""",
-    "a drawing comes after all that is near, and not after what is two days ahead": f"""
-{kept()}> came 0 {dot(7, PAGE, 1, 172_800_000_010)}
-batch 1 0 0 0
-ok {QUESTION}
-> add 0 10 7/1 line 0 0 4 0 *
-send {drawop(1, PAGE, 1, 10, STROKE)}
-ok {QUESTION}
-> add 0 11 7/1 line 0 0 4 0 *
-send {drawop(1, PAGE, 2, 172_800_000_011, STROKE)}
-ok {QUESTION}
-> add 0 18446744073709551615 7/1 line 0 0 4 0 *
-send {drawop(1, PAGE, 3, 2**64 - 1, STROKE)}
-ok {QUESTION}
-> add 0 18446744073709551615 7/1 line 0 0 4 0 *
-send {drawop(1, PAGE, 4, 2**64 - 1, STROKE)}
-ok {QUESTION}
-""",
-    "while it listens, numbers of ours are believed below 2^31": f"""
-{kept(listen=300)}> came 10 {session(9, 50, PAGE, [(1, FORGED)], [])}
-ok {QUESTION}
-> came 10 {datagrams.page_state(9, PAGE, [(1, FORGED - 2)])}
-ok {asked_at(10, 0)}
-> add 299 0 7/1 line 0 0 4 0 *
-refused listening
-> add 300 0 7/1 line 0 0 4 0 *
-send {drawop(1, PAGE, FORGED - 1, 0, STROKE)}
-ok {asked_at(10, 0)}
-> add 300 0 7/1 line 0 0 4 0 *
-send {drawop(1, PAGE, FORGED, 1, STROKE)}
-ok {asked_at(10, 0)}
-> came 300 {drawop(1, PAGE, FORGED, 1, STROKE)}
-batch 0 1 0 0
-ok {asked_at(10, 0)}
-> came 300 {drawop(1, PAGE, FORGED + 1, 1, STROKE)}
-refused ours
-> came 300 {session(9, 50, PAGE, [(1, FORGED + 1)], [])}
-ok {asked_at(10, 0)}
-> next 7 1
-next {FORGED + 1}
-ok {asked_at(10, 0)}
-""",
-    "a full board asks for nothing": f"""
-{kept(cells=2)}> came 0 {dot(7, PAGE, 3)}
-batch 1 0 0 0
-ok {min(asked_at(0, 0), asked_at(0, 1))}
-> add 0 5 7/1 line 0 0 4 0 *
-send {drawop(1, PAGE, 1, 5, STROKE)}
-ok {QUESTION}
-> add 0 5 7/1 line 0 0 4 0 *
-batch 0 0 0 1
-ok {QUESTION}
-> came 0 {STARS}
-batch 0 0 0 1
-ok {QUESTION}
-> came 0 {dot(7, PAGE, 3)}
-batch 0 1 0 0
-ok {QUESTION}
-> came 0 {session(9, 50, PAGE, [(7, 9)], [])}
-ok {QUESTION}
-{questions()}""",
-}
+WRITTEN = Path(__file__).parent / "transcripts"
+DRAWING = read(WRITTEN / "drawing.md", HOST, globals())
+TELLING = [it for file in ("telling.md", "asking.md") for it in read(WRITTEN / file, HOST, globals())]
 
-TELLING = {
-    "it asks for pages ever more rarely, and reports": f"""
-{kept()}> tick {QUESTION - 1}
-ok {QUESTION}
-{questions()}> tick {REPORT}
-send {report(REPORT, (0, 0), [], [])}
-ok {TURN}
-> tick {TURN}
-ok {2 * TURN}
-> tick {2 * TURN}
-ok {min(THIRD, REPORT + 1_000_000 + DRAWN[4] % 2_000_001, 3 * TURN + TURN // 128)}
-""",
-    "a report has its marks and echoes, and the more members the rarer": f"""
-{kept(rate=40)}> came 9 {session(9, 50, PAGE, [], [])}
-ok {QUESTION}
-> came 11 {session(8, 7, PAGE, [], [])}
-ok {QUESTION}
-> came 11 {STARS}
-batch 1 0 0 0
-ok {QUESTION}
-{questions()}> tick {REPORT}
-send {report(REPORT, PAGE, [(7, 1)], [(8, 7, REPORT - 11), (9, 50, REPORT - 9)])}
-ok {TURN}
-> tick {TURN}
-ok {2 * TURN}
-> tick {2 * TURN}
-ok {min(THIRD, REPORT + 3_000_000 + DRAWN[4] % 6_000_001, 3 * TURN + TURN // 128)}
-""",
-    "a question for pages is answered once": f"""
-{kept()}> came 0 {datagrams.ask_pages(9)}
-ok {QUESTION}
-> came 0 {STARS}
-batch 1 0 0 0
-ok {QUESTION}
-> came 0 {datagrams.ask_pages(1)}
-ok {QUESTION}
-> came 0 {datagrams.ask_pages(9)}
-ok {min(QUESTION, ANSWER)}
-> came 1 {datagrams.ask_pages(8)}
-ok {min(QUESTION, ANSWER)}
-> tick {ANSWER}
-send {datagrams.page_state(1, PAGE, [(7, 1)])}
-ok {QUESTION}
-> came {ANSWER + 1} {datagrams.ask_pages(9)}
-ok {QUESTION}
-""",
-    "and by nobody who heard an answer": f"""
-{kept()}> came 0 {STARS}
-batch 1 0 0 0
-ok {QUESTION}
-> came 0 {datagrams.ask_pages(9)}
-ok {min(QUESTION, ANSWER)}
-> came 5 {datagrams.page_state(9, PAGE, [(7, 1)])}
-ok {REPORT}
-> came 1000004 {datagrams.ask_pages(9)}
-send {report(1_000_004, PAGE, [(7, 1)], [])}
-ok {1_000_004 + TURN}
-> came 1000005 {datagrams.ask_pages(9)}
-ok {1_000_005 + DRAWN[4] % 500_001}
-""",
-    "it keeps itself from the present moment on": f"""
-> board 1 100 1 {SEED}
-ok never
-> tick 5000
-ok never
-> keep 1000000 4294967295
-ok {5000 + QUESTION}
-> add 4294972294 0 7/1 line 0 0 4 0 *
-refused listening
-""",
-    "no line tells the last moments": f"""
-{kept()}> tick {2**48 - 1}
-send {datagrams.ask_pages(1)}
-send {report(2**48 - 1, (0, 0), [], [])}
-ok never
-""",
-}
 
-ASKING = {
-    "the neighbours of what came are asked for": f"""
-{kept()}> came 100 {dot(7, PAGE, 3)}
-batch 1 0 0 0
-ok {min(NEAR)}
-> came 100 {dot(7, PAGE, 3)}
-batch 0 1 0 0
-ok {min(NEAR)}
-> came 100 {dot(7, PAGE, 3, 2)}
-batch 0 0 1 0
-ok {min(NEAR)}
-> tick {max(NEAR)}
-send {datagrams.request(1, 7, PAGE, 1)}
-send {datagrams.request(1, 7, PAGE, 2)}
-send {datagrams.ask_pages(1)}
-ok {min(asked_at(max(NEAR), word, level=1) for word in (2, 3))}
-""",
-    "what a report tells is asked for, and no number of ours is heard of": f"""
-{kept()}> came 9 {session(9, 50, PAGE, [(1, 5), (7, 2)], [])}
-ok {min(asked_at(9, 0), asked_at(9, 1))}
-> known
-known 0
-ok {min(asked_at(9, 0), asked_at(9, 1))}
-> next 7 1
-next 1
-ok {min(asked_at(9, 0), asked_at(9, 1))}
-> came 9000 {dot(1, PAGE, 5)}
-batch 1 0 0 0
-ok {min(QUESTION, asked_at(9, 1), *(asked_at(9000, word) for word in (2, 3, 4, 5)))}
-> next 7 1
-next 6
-ok {min(QUESTION, asked_at(9, 1), *(asked_at(9000, word) for word in (2, 3, 4, 5)))}
-""",
-    "the number of the lines": f"""
-{kept()}> version
-version 1
-ok {QUESTION}
-> came 9 {session(9, 50, PAGE, [(7, 1)], [])}
-ok {asked_at(9, 0)}
-> version
-version 1
-ok {asked_at(9, 0)}
-""",
-    "what names us as its sender is no news": f"""
-{kept()}> came 0 {session(1, 50, PAGE, [(7, 2)], [])}
-ok {QUESTION}
-> came 0 {datagrams.page_state(1, PAGE, [(7, 2)])}
-ok {QUESTION}
-> came 0 {datagrams.request(1, 7, PAGE, 1)}
-ok {QUESTION}
-> came 0 {datagrams.ask_pages(1)}
-ok {QUESTION}
-{questions()}""",
-    "a session message tells a delay, which is bounded, and the usual one": f"""
-{kept()}> came 50 {session(7, 9, PAGE, [(7, 1)], [(1, 10, 20)])}
-ok {asked_at(50, 0, 10_000)}
-> came 60 {session(9, 9, PAGE, [(8, 1)], [])}
-ok {min(asked_at(50, 0, 10_000), asked_at(60, 1, 18_750))}
-""",
-    "its timers are given other constants": f"""
-{kept()}> tuning 3 16 1 11
-ok {QUESTION}
-> came 0 {STARS}
-batch 1 0 0 0
-ok {QUESTION}
-> came 0 {datagrams.request(9, 7, PAGE, 1)}
-ok {min(QUESTION, drawn(0, 20_000, TIMERS[0], 1, 11))}
-> tick {QUESTION}
-send {datagrams.ask_pages(1)}
-ok {drawn(0, 20_000, TIMERS[0], 1, 11)}
-> keep 4000 0
-refused kept
-""",
-    "a request is answered as by any host": f"""
-{kept()}> came 0 {STARS}
-batch 1 0 0 0
-ok {QUESTION}
-> came 0 {datagrams.request(9, 7, PAGE, 1)}
-ok {drawn(0, 20_000, TIMERS[0], 1, 1)}
-> tick {drawn(0, 20_000, TIMERS[0], 1, 1)}
-send {STARS}
-ok {QUESTION}
-> tick {QUESTION}
-send {datagrams.ask_pages(1)}
-ok {AGAIN}
-""",
-    "the usual delay is lent for one line, and not set": f"""
-{kept()}> came 0 {STARS}
-batch 1 0 0 0
-ok {QUESTION}
-> came 0 {dot(7, PAGE, 2)}
-batch 1 0 0 0
-ok {QUESTION}
-> came 0 {datagrams.request(9, 7, PAGE, 1)}
-ok {drawn(0, 20_000, TIMERS[0], 1, 1)}
-> tick {drawn(0, 20_000, TIMERS[0], 1, 1)}
-send {STARS}
-ok {QUESTION}
-> came 40000 {session(8, 9, PAGE, [], [(1, 1000, 0)])}
-ok {QUESTION}
-> came 40000 {datagrams.request(9, 7, PAGE, 2)}
-ok {QUESTION}
-> tick {QUESTION}
-send {datagrams.ask_pages(1)}
-ok {drawn(40_000, (7 * 20_000 + 19_500) // 8, TIMERS[1], 1, 1)}
-""",
-}
 
 # lines that a self-managing host refuses
 ACTING = [
@@ -426,12 +140,6 @@ MISTYPED = {
     "add 1 2 7/1 delete 7 0": "word 6: target sequence number 0",
     "add 1 2 7/1 restore 7 1 1": "word 7: one too many",
 }
-
-
-@pytest.mark.parametrize("conversation", [pytest.param(it, id=name) for table in (DRAWING, TELLING, ASKING) for name, it in table.items()])
-def test_kept(conversation: str) -> None:
-    given, printed = parted(conversation)
-    assert first_difference(given, host(given), printed) == ""
 
 
 def test_refused() -> None:

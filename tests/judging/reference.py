@@ -1,6 +1,6 @@
 """The judgement of a member, as the table of cases has it: which datagrams are handed to its host, and why the others are not.
 
-It is written to be read, and kept apart from the one that has to be fast: the crate wb_judge passes the table that make_cases.py makes by it. It has no host, no clock and no socket: whoever asks tells the moment, and what the host holds. Moments and times
+It is written to be read, and kept apart from the one that has to be fast: the crate wb_judge passes the table of cases as it does. It has no host, no clock and no socket: whoever asks tells the moment, and what the host holds. Moments and times
 are microseconds. A datagram is said in the words of `wb words`."""
 
 from __future__ import annotations

@@ -1,25 +1,16 @@
-"""Runs the table of cases on the reference. README.md says what a step is."""
+"""Runs cases on the reference. README.md says what a step is."""
 
 from __future__ import annotations
 
 import json
-from pathlib import Path
-from typing import Any, Dict, Iterator, List
+from typing import Any, Dict, Iterator
 
 from .reference import Facts, Judge
 from .words import datagram_of, name_of, origin_of
 
-TABLE = Path(__file__).with_name("cases.json")
-
 FACTS = ("held", "listens", "holds", "top", "lacking")
 
 Step = Dict[str, Any]
-
-
-def cases() -> List[Dict[str, Any]]:
-    """The cases of the table."""
-    table: Dict[str, Any] = json.loads(TABLE.read_text())
-    return list(table["cases"])
 
 
 def each_of(step: Step) -> Iterator[Step]:

@@ -13,7 +13,8 @@ from typing import Any, Dict
 
 import pytest
 
-from .table import cases, each_of
+from .cases import cases
+from .table import each_of
 
 TOP = Path(__file__).resolve().parents[2]
 CRATES = ["wb_judge", "wb_words", "wb_codec", "wb_names"]

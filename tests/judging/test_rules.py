@@ -10,6 +10,7 @@ from typing import Any, Dict, NamedTuple
 import pytest
 
 from . import attacks, numbers, reference, table
+from .cases import cases
 
 SOURCE = Path(reference.__file__).read_text()
 
@@ -84,6 +85,12 @@ def judge_without(rule: Rule) -> Any:
     module.__dict__["__package__"] = reference.__package__
     exec(compile(SOURCE.replace(rule.text, rule.without), reference.__file__, "exec"), module.__dict__)
     return module.Judge
+
+
+def test_table() -> None:
+    """Each case has a name of its own, and passes the reference."""
+    assert len({case["name"] for case in cases()}) == len(cases()) > 80
+    assert [fault for case in cases() for fault in table.faults_of(case)] == []
 
 
 CASES: Dict[str, Any] = {case["name"]: case for case in [*attacks.cases(), *numbers.cases()]}

@@ -13,6 +13,7 @@ from .checkout import TOP, Checkout, End
 INSTALLED = """\
 bin/wb
 bin/wb-live
+lib/wb/wb
 share/bash-completion/completions/wb
 share/bash-completion/completions/wb-live
 share/doc/wb/BUILT
@@ -53,12 +54,13 @@ def test_install(with_live: Checkout) -> None:
     assert printed(with_live, "usr/bin/wb", "x") == "one x\n"
     told = printed(with_live, "usr/share/wb/wb", "--version").splitlines()
     assert [line.split()[0] for line in told] == ["wb", "sources", "proved"], "it says of what it was built"
+    assert printed(with_live, "usr/bin/wb", "--version").splitlines() == told == with_live.wb("--version").printed.splitlines()
     folder.rename(moved)
-    assert printed(with_live, "moved/bin/wb-live", "a", WB_PROGRAM="") == "moved/share/wb/../../bin/wb a\n", "it runs by what was installed with it"
-    assert printed(with_live, "moved/share/wb/wb", "--now") == "proved moved/share/wb/../../bin/wb\n"
+    assert printed(with_live, "moved/bin/wb-live", "a", WB_PROGRAM="") == "moved/lib/wb/wb a\n", "it runs by what was installed with it"
+    assert printed(with_live, "moved/share/wb/wb", "--now") == "proved moved/lib/wb/wb\n"
     assert printed(with_live, "moved/share/wb/wb", "y") == "one y\n"
     (moved / "share/doc/wb/BUILT").write_text("wb 0.1.0\nsources 12\nnot proved\n")
-    assert printed(with_live, "moved/share/wb/wb", "--now") == "unproved moved/share/wb/../../bin/wb\n", "it says what BUILT says"
+    assert printed(with_live, "moved/share/wb/wb", "--now") == "unproved moved/lib/wb/wb\n", "it says what BUILT says"
     assert printed(with_live, "moved/share/wb/wb", "--version").splitlines()[-1] == "not proved"
     (moved / "share/wb/old").touch()
     assert with_live.wb("--install", str(moved)).status == 0

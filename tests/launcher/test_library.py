@@ -21,7 +21,7 @@ def tool(monkeypatch: pytest.MonkeyPatch) -> ModuleType:
     module = importlib.util.module_from_spec(spec)
     loader.exec_module(module)
     for name in ("join", "link"):
-        monkeypatch.setattr(module, name, lambda kit, archive, made: made.write_text("made"))
+        monkeypatch.setattr(module, name, lambda *words: words[-1].write_text("made"))
     return module
 
 
@@ -32,7 +32,7 @@ def test_what_else_is_in_the_folder_stays(tool: ModuleType, tmp_path: Path) -> N
         other.parent.mkdir(parents=True)
         other.write_text("other")
     for _ in range(2):
-        tool.lay(tmp_path, tmp_path, tmp_path / "archive")
+        tool.lay(tmp_path, tmp_path, tmp_path / "archive", "wb 0.1.0\n")
         assert all(other.read_text() == "other" for other in others)
     made = {path.name for path in (tmp_path / "lib").iterdir()}
     assert made == {"python3", "pkgconfig", "libwb.a", "libwb.so", "libwb.so.0"} and (tmp_path / "lib/libwb.so").read_text() == "made"

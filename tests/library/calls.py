@@ -6,7 +6,7 @@ import ctypes
 from pathlib import Path
 
 CALLS = ["wb_add", "wb_ask", "wb_block", "wb_came", "wb_came_from", "wb_close", "wb_due", "wb_event", "wb_gone", "wb_line", "wb_open", "wb_tick",
-         "wb_wall"]
+         "wb_version", "wb_wall"]
 
 
 class Held(ctypes.Structure):

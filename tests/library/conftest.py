@@ -36,10 +36,17 @@ def compiler() -> str:
     return found
 
 
+def linked(library: Path) -> dict[str, list[str | Path]]:
+    """The words of a compiler for a program over the library, by each file that there is: one that is not proved has no archive."""
+    lib = library / "lib"
+    found: dict[str, list[str | Path]] = {"archive": [lib / "libwb.a"], "shared": [f"-L{lib}", "-lwb", f"-Wl,-rpath,{lib}"]}
+    return {name: words for name, words in found.items() if name == "shared" or (lib / "libwb.a").exists()}
+
+
 @pytest.fixture(scope="session")
 def host_in_c(library: Path, compiler: str, tmp_path_factory: pytest.TempPathFactory) -> Path:
-    """examples/c/host.c, over the archive."""
+    """examples/c/host.c, over the archive if there is one."""
     made = tmp_path_factory.mktemp("host") / "host"
     words = ["-std=c11", "-Wall", "-Wextra", "-Werror", "-O1", f"-I{library}/include"]
-    run([compiler, *words, TOP / "examples/c/host.c", library / "lib/libwb.a", "-o", made])
+    run([compiler, *words, TOP / "examples/c/host.c", *next(iter(linked(library).values())), "-o", made])
     return made

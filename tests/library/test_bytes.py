@@ -9,8 +9,8 @@ from pathlib import Path
 import pytest
 
 from ..host import datagrams
-from ..host.conversations import parted
 from ..host.test_kept import DRAWING, KeptSession
+from ..transcripts import parted
 from .by_bytes import NEXT, PAGE, SENT, SHOWN, ByBytes, drafts
 from .calls import Host
 
@@ -59,8 +59,8 @@ def test_the_same_as_by_lines(library: Path, seed: int) -> None:
 def test_the_same_over_what_is_drawn(library: Path) -> None:
     """Drawings with values that were worked out, among them full boards, and questions of each kind."""
     made = 0
-    for conversation in DRAWING.values():
-        given = [line for line in parted(conversation)[0].splitlines() if line]
+    for conversation in DRAWING:
+        given = [line for line in parted(conversation.text)[0].splitlines() if line]
         made += compare(library, given)
     assert made > 20
 

@@ -13,10 +13,10 @@ from pathlib import Path
 
 import pytest
 
-from ..host.conversations import JUDGED_HOST, documented, parted
 from ..host.program import TOP, program
 from ..host.test_drivers import Relay
-from ..host.test_judged import CONVERSATIONS, JudgedSession
+from ..host.test_judged import TRANSCRIPTS, JudgedSession
+from ..transcripts import JUDGED_HOST, cases, parted, read
 from .by_bytes import DREW, DROPPED, GREATEST, MISSING, NEW, NEXT, PAGE, PAINTED, RECORD, SENT, SHOWN, JudgedByBytes, judged_drafts
 from .calls import Host
 from .test_bytes import drawn
@@ -54,15 +54,15 @@ def said_by(library: Path, given: str) -> str:
     return "".join(blocks)
 
 
-@pytest.mark.parametrize("title", CONVERSATIONS)
-def test_conversation(library: Path, title: str) -> None:
-    given, wanted = parted(CONVERSATIONS[title])
+@pytest.mark.parametrize("transcript", cases(TRANSCRIPTS))
+def test_transcript(library: Path, transcript: str) -> None:
+    given, wanted = parted(transcript)
     assert said_by(library, given) == wanted
 
 
 @pytest.mark.parametrize("page", ["HOST.md", "HOST-LINES.md"])
 def test_documented(library: Path, page: str) -> None:
-    found = [parted(it) for it in documented((TOP / "docs" / page).read_text(), JUDGED_HOST)]
+    found = [parted(it.text) for it in read(TOP / "docs" / page, JUDGED_HOST)]
     assert found
     for given, wanted in found:
         assert said_by(library, given) == wanted
@@ -102,7 +102,7 @@ def test_the_same_by_bytes(library: Path, seed: int) -> None:
 
 
 def test_the_same_over_what_was_worked_out(library: Path) -> None:
-    made = sum(compare(library, [line for line in parted(conversation)[0].splitlines() if line]) for conversation in CONVERSATIONS.values())
+    made = sum(compare(library, [line for line in parted(it.text)[0].splitlines() if line]) for it in TRANSCRIPTS)
     assert made > 40
 
 

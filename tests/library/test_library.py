@@ -10,12 +10,12 @@ from pathlib import Path
 
 import pytest
 
-from ..host.conversations import documented, parted
 from ..host.program import program
 from ..host.sessions import Session
 from ..host.test_kept import KeptSession
+from ..transcripts import parted, read
 from .calls import CALLS, Host
-from .conftest import TOP, run
+from .conftest import TOP, linked, run
 
 DONE, WAITS, NOT_DONE, CLOSED, MEMORY, OPEN = range(6)
 CONVERSATIONS = 60
@@ -107,7 +107,7 @@ def by_library(host_in_c: Path, given: bytes) -> bytes:
 
 def conversations() -> list[bytes]:
     """Those of the documents, and those that the tests of the host make up."""
-    found = [parted(it)[0].encode() for page in ("HOST.md", "HOST-LINES.md", "KEEPING.md") for it in documented((TOP / "docs" / page).read_text())]
+    found = [parted(it.text)[0].encode() for page in ("HOST.md", "HOST-LINES.md", "KEEPING.md") for it in read(TOP / "docs" / page)]
     for seed in range(CONVERSATIONS):
         numbers = random.Random(seed)
         found += [session.conversation(80)[0].encode() for session in (Session(numbers), KeptSession(numbers))]
@@ -132,10 +132,9 @@ PRINTED = {"board": "*****     \ndrawn in C\n", "bytes": "2 drawings came, and a
 @pytest.mark.parametrize("example", PRINTED)
 def test_examples_in_c(library: Path, compiler: str, tmp_path: Path, example: str) -> None:
     words: list[str | Path] = ["-std=c11", "-D_POSIX_C_SOURCE=200809L", "-Wall", "-Wextra", "-Werror", f"-I{library}/include", TOP / f"examples/c/{example}.c"]
-    run([compiler, *words, library / "lib/libwb.a", "-o", tmp_path / "static"])
-    run([compiler, *words, f"-L{library}/lib", "-lwb", f"-Wl,-rpath,{library}/lib", "-o", tmp_path / "shared"])
-    for made in ("static", "shared"):
-        assert run([tmp_path / made]) == PRINTED[example]
+    for name, way in linked(library).items():
+        run([compiler, *words, *way, "-o", tmp_path / name])
+        assert run([tmp_path / name]) == PRINTED[example]
 
 
 # each is one misuse of a call, in a function that has a host and a room for 16 bytes
@@ -189,7 +188,10 @@ def test_only_the_calls_are_offered(library: Path, compiler: str) -> None:
     told = run(["nm", "-D", "--defined-only", library / "lib/libwb.so.0"])
     assert sorted(line.split()[-1] for line in told.splitlines()) == CALLS
     needed = run(["readelf", "-d", library / "lib/libwb.so.0"])
-    assert re.findall(r"NEEDED.*\[(.*)\]", needed) == ["libc.so.6"]
+    assert re.findall(r"(NEEDED|SONAME).*\[(.*)\]", needed) == [("NEEDED", "libc.so.6"), ("SONAME", "libwb.so.0")]
+    # of glibc no later version, as the package for Python says
+    versions = re.findall(rb"GLIBC_(\d+)\.(\d+)", (library / "lib/libwb.so.0").read_bytes())
+    assert max((int(first), int(second)) for first, second in versions) <= (2, 17) and "glibc 2.17 or later" in (TOP / "python/README.md").read_text()
 
 
 def test_header_is_that_of_the_calls() -> None:
@@ -201,7 +203,7 @@ def test_header_is_that_of_the_calls() -> None:
         for name, rest in re.findall(r'extern "C" fn (\w+)\(([^)]*)\)', (folder / source).read_text()):
             words = [word.split(":")[1] for word in rest.split(",") if ":" in word]
             exported[name] = sum(0 if "Global" in word else 2 if "[u8]" in word else 1 for word in words)
-    assert declared == exported and sorted(exported) == CALLS
+    assert declared == exported and sorted([*exported, "wb_version"]) == CALLS  # which the build writes
     statuses = dict(re.findall(r"^    WB_(\w+) = (\d+)", header.split("enum {")[1], re.MULTILINE))
     assert statuses == dict(re.findall(r"const (\w+): u32 = (\d+);", (folder / "status.rt").read_text()))
 

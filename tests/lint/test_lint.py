@@ -11,7 +11,7 @@ from pathlib import Path
 import pytest
 
 TOP = Path(__file__).resolve().parents[2]
-PYTHON = ("live", "lab", "tests", "web", "tools", "examples", "python", "javascript", "wbhost.py", "wb-live")
+PYTHON = ("live", "lab", "tests", "figures", "web", "tools", "examples", "python", "javascript", "wbhost.py", "wb-live")
 # what is typed
 TYPED = ("wbhost.py", "live", "lab/laboratory", "tests", "python/wb", "python/wheels.py", "javascript/pack.py", "tools/packing")
 

@@ -176,7 +176,13 @@ class Page:
         return self.browser.call(method, self.session, **words)
 
     def close(self) -> None:
+        """Closes the window, and waits until it is gone: what its scripts do does not fail the next test."""
         self.browser.call("Target.closeTarget", targetId=self.target)
+        end = time.monotonic() + PATIENCE
+        while any(told["targetId"] == self.target for told in self.browser.call("Target.getTargets")["targetInfos"]):
+            if time.monotonic() > end:
+                raise BrowserFault("a window does not close")
+            time.sleep(0.02)
 
     def resize(self, width: int, height: int, mobile: bool = False) -> None:
         self.call("Emulation.setDeviceMetricsOverride", width=width, height=height, deviceScaleFactor=1, mobile=mobile)

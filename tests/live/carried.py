@@ -13,7 +13,7 @@ from live.carriers.sealed import Seal, Sealed
 from live.keys import new_key, read_key, write_key
 from ..facts import Facts
 from .test_carriers import Kept
-from .test_hostile import asking, drawn, framed, session, state
+from .attacks.test_hostile import asking, drawn, framed, session, state
 from .members import PATIENCE, Process
 from .mosquitto import BrokerFiles
 from .test_sessions import PAGES, Session, draw_together

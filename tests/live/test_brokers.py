@@ -22,7 +22,7 @@ from .test_carriers import NODE, Kept
 from .carried import check_session
 from .inside import run_inside
 from .test_following import check_broker
-from .test_liars import check_long as check_long_liars, check_names as check_liars
+from .attacks.test_liars import check_long as check_long_liars, check_names as check_liars
 from .members import TOP, comes
 from .mosquitto import PLAIN_PORT, TLS_PORT, WEB_PORT, BrokerFiles, found, way_to_etc
 from .recipes import check_recipes

@@ -18,7 +18,7 @@ from live.record import NoRoom, Record
 from live.views import Drawop
 from ..facts import Facts
 from .members import TOP, Process, comes
-from .test_hostile import drawn
+from .attacks.test_hostile import drawn
 from .test_keeping import board_of, end
 
 FIRST_PORT = 27_040

@@ -38,7 +38,7 @@ def test_slow(facts: Facts) -> None:
             status = repr(fault)
         facts("beside 540 slow connections the page is served", status, 200)
         end = time.monotonic() + PATIENCE
-        facts("a request that takes over 5 s is ended", sum(is_ended(each, end) for each in slow), len(slow))
+        facts("a request that takes over 20 s is ended", sum(is_ended(each, end) for each in slow), len(slow))
     finally:
         for each in slow:
             each.close()

@@ -3,25 +3,17 @@ from __future__ import annotations
 
 import os
 import subprocess
-import sys
 from typing import List
 
 from live.held import held_of
 from live.record import Act
 from ..facts import Facts
-from ..judging import table
-from .members import TOP
-
-
-def test_table(facts: Facts) -> None:
-    facts("there are cases", len(table.cases()) > 80, True)
-    made = subprocess.run([sys.executable, str(TOP / "tests" / "judging" / "make_cases.py"), "--check"], stdout=subprocess.PIPE, text=True, check=False)
-    facts("the table is as it is made", (made.returncode, made.stdout), (0, ""))
+from ..judging.cases import cases
 
 
 def test_datagrams(facts: Facts) -> None:
     """What comes in the cases is what the program says."""
-    said = [step["came"] for case in table.cases() for step in case["steps"] if "came" in step]
+    said = [step["came"] for case in cases() for step in case["steps"] if "came" in step]
     lines = sorted({line.replace("{}", "7") for line in said})
     given = "".join(line + "\n" for line in lines)
     hexed = subprocess.run([os.environ["WB_PROGRAM"], "hex"], input=given, stdout=subprocess.PIPE, text=True, check=False).stdout

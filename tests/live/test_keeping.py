@@ -19,7 +19,7 @@ from live.record import MOST_MOMENT, Act, NoRoom, Record, read_played
 from live.views import Drawop
 from live.words import Words
 from ..facts import Facts
-from .test_hostile import Attacker, drawn, session, state
+from .attacks.test_hostile import Attacker, drawn, session, state
 from .members import Process, answers
 
 FIRST_PORT = 26_240

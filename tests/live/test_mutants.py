@@ -32,7 +32,7 @@ from live.record import NoRoom, Record, RecordFault, read_played
 from live.views import Drawop
 from live.words import Words
 from ..facts import Facts
-from .test_hostile import Attacker, asking, deleting, drawn, framed, session, state
+from .attacks.test_hostile import Attacker, asking, deleting, drawn, framed, session, state
 from .members import PATIENCE, Process, comes, script_of
 
 FIRST_PORT = 27_280

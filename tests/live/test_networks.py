@@ -14,7 +14,7 @@ from typing import Any, Dict, List
 import pytest
 
 from ..facts import Facts
-from .test_hostile import Attacker, draw_datagram
+from .attacks.test_hostile import Attacker, draw_datagram
 from .members import PATIENCE, Process, answers
 
 FIRST_PORT = 26_160

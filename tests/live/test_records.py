@@ -17,7 +17,7 @@ import pytest
 from live.held import checked
 from live.record import Record, RecordFault, read_played
 from ..facts import Facts
-from .test_hostile import Attacker
+from .attacks.test_hostile import Attacker
 from .test_joins import holds, write_board
 from .test_keeping import board_of
 from .members import PATIENCE, Process, comes

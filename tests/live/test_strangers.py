@@ -17,8 +17,8 @@ import pytest
 from live.member import MOST_PARTINGS
 from ..facts import Facts
 from ..judging.reference import STRANGE_PAGES
-from .test_forgeries import now
-from .test_hostile import Attacker, drawn, framed, session, state
+from .attacks.test_forgeries import now
+from .attacks.test_hostile import Attacker, drawn, framed, session, state
 from .members import Process, comes
 
 FIRST_PORT = 26_760

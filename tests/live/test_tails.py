@@ -15,7 +15,7 @@ from live.tails import LATELY, MOST_PAGES, WAITS, Tails
 from live.views import Datagram, Drawop, datagram_of
 from ..facts import Facts
 from .members import program
-from .test_hostile import session
+from .attacks.test_hostile import session
 from .test_virtual import PAGE, Virtual, World
 
 ME = 7

@@ -30,7 +30,7 @@ from live.views import Datagram
 from live.words import SharedWords
 from ..facts import Facts
 from ..judging.reference import LEAST_SHARE, OF_ORIGIN, STRANGE_PAGES, STRANGERS
-from .test_hostile import drawn, session
+from .attacks.test_hostile import drawn, session
 from .members import program
 
 WALL = 1_764_000_000 * SECOND

@@ -58,7 +58,7 @@ def test_crate(crates: Path, library: Path) -> None:
     """Its own tests."""
     there = {"WB_PREFIX": str(library), "CARGO_TARGET_DIR": str(crates.parents[1]), "LD_LIBRARY_PATH": f"{library}/lib", "RUSTFLAGS": "-D warnings"}
     told = run(["cargo", "test", "--offline"], crates.parents[1] / "rust", **there)
-    assert "3 passed; 0 failed" in told, told
+    assert "4 passed; 0 failed" in told, told
 
 
 def test_board_in_rust(crates: Path, library: Path) -> None:

@@ -7,7 +7,7 @@ import select
 import socket
 import threading
 import time
-from collections.abc import Callable, Iterator
+from collections.abc import Callable, Hashable, Iterator
 from random import Random
 from typing import Optional
 
@@ -31,6 +31,7 @@ class Station:
         self.lock = threading.Lock()
         self.is_open = True
         self.streams_given = 0
+        self.origins: dict[tuple[str, int], Hashable] = {}  # of each address the origin of what came last
         self.socket, self.port = first_free(first_port)
         self.others = [(HERE, port) for port in range(first_port, first_port + PORTS) if port != self.port]
         self.listening = socket.create_server((HERE, self.port))
@@ -53,16 +54,17 @@ class Station:
             ready, _, _ = select.select([self.socket], [], [], min(wait, 0.1))
             with self.lock:
                 if ready:
-                    self.take(self.socket.recv(LONGEST))
+                    self.take(*self.socket.recvfrom(LONGEST))
                 if self.member.due() <= self.now():
                     self.send(self.member.tick(self.now()))
 
-    def take(self, data: bytes) -> None:
+    def take(self, data: bytes, address: tuple[str, int]) -> None:
         if self.random.random() < self.lose:
             return
-        datagram = self.seal.unwrap(data) if self.seal else data
-        if datagram is not None:
-            self.member.come(self.now(), datagram)
+        origin, datagram = self.seal.unwrap(data) if self.seal else (address, data)
+        if datagram:
+            self.origins[address] = origin
+            self.member.come(self.now(), datagram, origin)
 
     def draw(self, page: Page, operation: Operation) -> None:
         with self.lock:
@@ -110,13 +112,17 @@ class Station:
             stream.sendall(piece(seal.close(data[at:at + LONGEST], fresh + said[:FRESH])))
         return is_asked
 
+    def trusts(self, port: int) -> bool:
+        with self.lock:
+            return self.member.trusts(self.now(), self.origins.get((HERE, port), port))
+
     def take_stream(self, port: int) -> int:
         """Takes all drawops of the member at a port, and gives how many bytes came."""
         with socket.create_connection((HERE, port), timeout=PATIENCE) as stream:
             data = b"".join(self.parts(stream))
         with self.lock:
             for datagram in datagrams_in(data):
-                self.member.come(self.now(), datagram)
+                self.member.come(self.now(), datagram, self.origins[HERE, port])
         return len(data)
 
     def parts(self, stream: socket.socket) -> Iterator[bytes]:

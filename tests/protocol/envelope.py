@@ -44,18 +44,18 @@ class Seal:
         self.sent += 1
         return self.close(VERSION + self.sender + self.sent.to_bytes(8, "big") + datagram, b"", nonce)
 
-    def unwrap(self, sealed: bytes) -> Optional[bytes]:
-        """What another sender sealed, if it comes for the first time."""
+    def unwrap(self, sealed: bytes) -> tuple[bytes, bytes]:
+        """Another sender and what it sealed, if it comes for the first time. Else nothing."""
         opened = self.open(sealed)
         if opened is None or len(opened) < HEAD or opened[:1] != VERSION:
-            return None
+            return b"", b""
         sender, counter = opened[1:9], int.from_bytes(opened[9:HEAD], "big")
         came = self.came.setdefault(sender, [])
-        if sender == self.sender or counter in came or came and counter <= max(came) - REMEMBERED:
-            return None
+        if sender == self.sender or counter in came or came and counter < max(came) - REMEMBERED:
+            return b"", b""
         came.append(counter)
         del came[:-4 * REMEMBERED]
-        return opened[HEAD:]
+        return sender, opened[HEAD:]
 
 
 def asks(seal: Seal, given: bytes, ours: bytes, nonce: bytes = b"") -> bytes:

@@ -1,196 +1,282 @@
-"""A member, written from docs/PROTOCOL.md alone: bytes and moments go in, and bytes to send come out. It has no socket and no clock, and looks at
-nothing of the program."""
+"""A member, written from docs/PROTOCOL.md and docs/vectors alone: bytes and moments go in, and bytes to send come out. It has no socket and no clock,
+and looks at nothing of the program. It judges who is a member, and keeps nothing of strangers."""
 
 from __future__ import annotations
 
+from collections.abc import Callable, Hashable, Iterator
+from itertools import islice
 from random import Random
-from typing import Optional
+from typing import NamedTuple, Optional, Union
 
 from . import codec, painting
 from .codec import AskPages, Drawop, Echo, Mark, Operation, Page, PageState, Request, SessionMessage
-from .timers import OLD_LEVEL, UNKNOWN_DELAY, Name, Timers, delay_of
 
 SECOND = 1_000_000
 DAY = 24 * 3_600 * SECOND
-LISTENING = 6 * SECOND
-RATE, SHORTEST, LONGEST, HEARD, FRESH = 4_000, 2 * SECOND, 64 * SECOND, 192 * SECOND, 256 * SECOND
+LISTENING, RATE, SHORTEST, LONGEST = 6 * SECOND, 4_000, 2 * SECOND, 64 * SECOND
+HEARD, FRESH, GONE = 192 * SECOND, 256 * SECOND, 600 * SECOND
+UNKNOWN_DELAY, DELAY_LIMIT, HOLD_DOWNS = 100_000, 1 << 24, 3
+C1, C2, D1, D2 = 2, 2, 1, 1
+MOST_LEVEL, OLD_LEVEL = 16, 4
 MOST_TIMERS, MOST_MARKS, MOST_ECHOES, MOST_PAGES = 64, 64, 32, 64
 FIRST_FORGED = 1 << 31
-NOWHERE = Page(0, 0)
+
+Report = Union[SessionMessage, PageState]
+
+
+class Name(NamedTuple):
+    source: int
+    page: Page
+    seq: int
+
+
+class RequestTimer(NamedTuple):
+    level: int
+    delay: int
+    since: int
+    due: int
+
+
+class RepairTimer(NamedTuple):
+    due: int
+    delay: int
+
+
+def delay_of(now: int, sent: int, held: int) -> Optional[int]:
+    """The one-way delay to a member whose echo of ours came now, if it tells one."""
+    delay = (now - sent - held) // 2
+    return delay if sent + held <= now and delay < DELAY_LIMIT else None
 
 
 class Member:
     """`wall` is the time of day at moment 0. A member that `returns` listens first."""
 
     def __init__(self, number: int, random: Random, wall: int, returns: bool = False) -> None:
-        self.number, self.random, self.wall = number, random, wall
-        self.clock = random.randrange(1 << 40)  # what its session messages call moment 0, so that nobody guesses one
+        self.number, self.wall = number, wall
+        self.chance: Callable[[int], int] = lambda most: random.randint(0, most)
+        self.clock = random.randrange(1 << 40)  # what its session messages call moment 0
         self.listens_until = LISTENING if returns else 0
-        self.timers = Timers(self.chance)
-        self.held: dict[Name, Drawop] = {}
-        self.told: dict[tuple[Page, int], int] = {}  # of each source on a page the greatest number that was reported
+        self.held: dict[Page, dict[tuple[int, int], Drawop]] = {}  # by source and sequence number
+        self.tops: dict[Page, dict[int, int]] = {}
+        self.whole: dict[tuple[Page, int], int] = {}  # of a source on a page all numbers up to this are held
+        self.requests: dict[Name, RequestTimer] = {}
+        self.repairs: dict[Name, RepairTimer] = {}
+        self.held_down: dict[Name, int] = {}
         self.delays: dict[int, int] = {}
-        self.heard: dict[int, tuple[int, int]] = {}  # of each sender the moment that its last session message named, and when it came
-        self.sent: set[int] = set()  # the moments of its session messages
-        self.other: Optional[tuple[int, int]] = None  # of the last one under its number that it did not send: as in `heard`
+        self.heard: dict[int, tuple[int, int]] = {}  # the moment that a member's last session message named, and when it came
+        self.sent: dict[int, int] = {}  # the moments that its own named, and when it sent them
         self.has_twin = False
-        self.report_at, self.reported = self.chance(SECOND), (NOWHERE, -1)  # the page of the last report, and the last source in it
+        self.members: dict[Hashable, int] = {}  # the origins that are members', and when something came from there
+        self.homes: dict[int, tuple[Hashable, int]] = {}  # where a number has echoed us, and when something came under it
+        self.report_at, self.reported = self.chance(SECOND), (Page(-1, 0), 0)  # the last mark that it sent
         self.ask_at: Optional[int] = self.chance(SECOND // 5)
         self.ask_wait = SECOND
         self.answer_at: Optional[int] = None
         self.quiet_until = 0
 
-    def chance(self, most: int) -> int:
-        return self.random.randint(0, most)
+    # ---- what it holds, and lacks
+
+    def holds(self, name: Name) -> bool:
+        return (name.source, name.seq) in self.held.get(name.page, {})
+
+    def count(self) -> int:
+        return sum(map(len, self.held.values()))
+
+    def marks(self, page: Page) -> tuple[Mark, ...]:
+        return tuple(Mark(*it) for it in painting.marks(self.held.get(page, {}).values(), page).items())
+
+    def rows(self, page: Page, width: int, height: int) -> list[str]:
+        return painting.canvas(self.held.get(page, {}).values(), page, width, height)
+
+    def stream(self) -> bytes:
+        """All drawops, by page, source and number."""
+        return b"".join(codec.write(self.held[page][place]) for page in sorted(self.held) for place in sorted(self.held[page]))
+
+    def missing(self, page: Page, source: int) -> Iterator[Name]:
+        held, whole = self.held.get(page, {}), self.whole.get((page, source), 0)
+        while (source, whole + 1) in held:
+            whole += 1
+        self.whole[page, source] = whole
+        return (Name(source, page, seq) for seq in range(whole + 1, self.tops[page][source] + 1) if (source, seq) not in held)
+
+    def lacking(self) -> list[tuple[Page, int]]:
+        """The pages and sources of which something is missing."""
+        return [(page, source) for page, tops in self.tops.items() for source in tops if next(self.missing(page, source), None)]
+
+    def know(self, name: Name) -> None:
+        tops = self.tops.setdefault(name.page, {})
+        tops[name.source] = max(name.seq, tops.get(name.source, 0))
+
+    def keep(self, drawop: Drawop) -> None:
+        self.held.setdefault(drawop.page, {})[drawop.source, drawop.seq] = drawop
+        self.know(Name(drawop.source, drawop.page, drawop.seq))
+
+    # ---- what comes in
+
+    def come(self, now: int, data: bytes, origin: Hashable = None) -> None:
+        """Takes what came from an origin. What comes from none is a member's."""
+        it = codec.read(data)
+        if it is None:
+            return
+        if self.trusts(now, origin):
+            self.members[origin] = now
+        number = it.source if isinstance(it, Drawop) else it.asker if isinstance(it, (Request, AskPages)) else it.sender
+        if number in self.homes and self.homes[number][0] == origin:
+            self.homes[number] = origin, now
+        if isinstance(it, Drawop):
+            self.take(now, it, self.trusts(now, origin))
+        elif number == self.number:
+            self.meet(now, it)
+        elif isinstance(it, Request):
+            self.requested(now, it, self.trusts(now, origin))
+        elif not isinstance(it, AskPages):
+            self.note(now, it, origin)
+        elif self.held and self.answer_at is None and now >= self.quiet_until:
+            self.answer_at = now + self.chance(SECOND // 2)
+        self.ask_for(now)
+
+    def take(self, now: int, it: Drawop, is_trusted: bool) -> None:
+        is_forged = it.source == self.number and it.seq >= FIRST_FORGED
+        if not is_trusted or is_forged or it.time > self.wall + now + DAY:
+            return
+        name = Name(it.source, it.page, it.seq)
+        if not self.holds(name):
+            self.keep(it)
+        if any([self.requests.pop(name, None), self.repairs.pop(name, None)]):
+            self.held_down[name] = now + HOLD_DOWNS * self.delay(it.source)
+
+    def requested(self, now: int, it: Request, is_trusted: bool) -> None:
+        name = Name(it.source, it.page, it.seq)
+        timer = self.requests.get(name)
+        if self.holds(name):
+            if name not in self.repairs and self.held_down.get(name, now) <= now:
+                delay = self.delay(it.asker)
+                self.repairs[name] = RepairTimer(now + D1 * delay + self.chance(D2 * delay), delay)
+        elif timer and is_trusted and (not timer.level or now - timer.since >= (timer.due - timer.since) // 2):
+            self.set_request(now, name, timer.level + 1, self.delay(name.source))
+
+    def note(self, now: int, it: Report, origin: Hashable) -> None:
+        """A report, and the delay to its sender by the echo of ours."""
+        if not self.is_believed(now, it, origin):
+            return
+        if isinstance(it, PageState):
+            self.ask_at, self.answer_at, self.quiet_until = None, None, now + SECOND
+        else:
+            self.heard[it.sender] = it.sent, now
+            for echo in it.echoes:
+                delay = delay_of(self.clock + now, echo.sent, echo.held) if echo.source == self.number else None
+                if delay is not None:
+                    self.delays[it.sender] = delay
+        for mark in it.marks:
+            if mark.source == self.number and (now >= self.listens_until or mark.high >= FIRST_FORGED):
+                continue
+            name = Name(mark.source, it.page, mark.high)
+            self.know(name)
+            if name in self.requests and self.requests[name].level >= OLD_LEVEL:
+                self.set_request(now, name, 0, self.delay(mark.source))
+
+    def meet(self, now: int, it: Union[Request, AskPages, Report]) -> None:
+        """What names this member: its own, or that of a twin, whose session messages it echoes."""
+        if isinstance(it, SessionMessage) and it.sent not in self.sent:
+            self.heard[self.number] = it.sent, now
+            self.has_twin |= self.is_echoed(now, it)
+
+    def renumber(self) -> None:
+        """Takes another number. What it drew stays, and its twin is now another member."""
+        while self.number in self.heard:
+            self.number = self.chance((1 << 32) - 1)
+        self.has_twin = False
+
+    # ---- who is a member
+
+    def is_echoed(self, now: int, it: Report) -> bool:
+        """Whether it has an echo of a moment of ours, which must not be held longer than there was time."""
+        echoes = it.echoes if isinstance(it, SessionMessage) else ()
+        ours = [(now - self.sent[echo.sent], echo.held) for echo in echoes if echo.source == self.number and echo.sent in self.sent]
+        return any(ago <= FRESH and held <= ago + ago // 4_096 for ago, held in ours)
+
+    def is_believed(self, now: int, it: Report, origin: Hashable) -> bool:
+        """Learns who is a member. A number that has echoed us stays where it is."""
+        if self.is_echoed(now, it):
+            self.members[origin], self.homes[it.sender] = now, (origin, now)
+        home, last = self.homes.get(it.sender, (origin, now))
+        return home == origin or now - last > HEARD
+
+    def trusts(self, now: int, origin: Hashable) -> bool:
+        return origin is None or now - self.members.get(origin, now - GONE - 1) <= GONE
+
+    # ---- what it sends
 
     def delay(self, other: int) -> int:
         return self.delays.get(other, UNKNOWN_DELAY)
 
-    # ---- what it holds, and lacks
-
-    def pages(self) -> list[Page]:
-        return sorted({name.page for name in self.held})
-
-    def marks(self, page: Page) -> dict[int, int]:
-        return painting.marks(self.held.values(), page)
-
-    def tops(self) -> dict[tuple[Page, int], int]:
-        """Of each source on a page the greatest number that is held or was reported."""
-        tops = dict(self.told)
-        for name in self.held:
-            place = name.page, name.source
-            tops[place] = max(name.seq, tops.get(place, 0))
-        return tops
-
-    def missing(self) -> list[Name]:
-        every = (Name(source, page, seq) for (page, source), top in self.tops().items() for seq in range(1, top + 1))
-        return [name for name in every if name not in self.held]
+    def set_request(self, now: int, name: Name, level: int, delay: int) -> None:
+        level = min(level, MOST_LEVEL)
+        self.requests[name] = RequestTimer(level, delay, now, now + (C1 * delay << level) + self.chance(C2 * delay << level))
 
     def ask_for(self, now: int) -> None:
-        """Request timers for what is missing, as many as may run."""
-        for name in self.missing():
-            if len(self.timers.requests) >= MOST_TIMERS:
-                return
-            self.timers.missing(now, name, self.delay(name.source))
-
-    # ---- what comes in
-
-    def come(self, now: int, data: bytes) -> None:
-        it = codec.read(data)
-        if isinstance(it, Drawop):
-            self.take(now, it)
-        elif isinstance(it, Request) and it.asker != self.number:
-            self.requested(now, Name(it.source, it.page, it.seq), it.asker)
-        elif isinstance(it, SessionMessage) and it.sender != self.number:
-            self.hear(now, it)
-            self.note(now, it.page, it.marks)
-        elif isinstance(it, SessionMessage) and it.sent not in self.sent:
-            self.other = it.sent, now
-            self.has_twin |= any(echo.source == self.number and echo.sent in self.sent for echo in it.echoes)
-        elif isinstance(it, PageState) and it.sender != self.number:
-            self.ask_at = self.answer_at = None
-            self.quiet_until = now + SECOND
-            self.note(now, it.page, it.marks)
-        elif isinstance(it, AskPages) and it.asker != self.number and self.held and self.answer_at is None and now >= self.quiet_until:
-            self.answer_at = now + self.chance(SECOND // 2)
-
-    def take(self, now: int, drawop: Drawop) -> None:
-        name = Name(drawop.source, drawop.page, drawop.seq)
-        if name not in self.held:
-            is_forged = drawop.source == self.number and drawop.seq >= FIRST_FORGED
-            if is_forged or drawop.time > self.wall + now + DAY:
-                return
-            self.held[name] = drawop
-        self.timers.came(now, name, self.delay(drawop.source))
-        self.ask_for(now)
-
-    def own_top(self, page: Page) -> int:
-        return self.tops().get((page, self.number), 0)
-
-    def requested(self, now: int, name: Name, asker: int) -> None:
-        if name in self.held:
-            self.timers.asked(now, name, self.delay(asker))
-        else:
-            self.timers.requested(now, name, self.delay(name.source))
-
-    def hear(self, now: int, message: SessionMessage) -> None:
-        """The delay to its sender, by the echo of ours, and what the next echo of it says."""
-        self.heard[message.sender] = message.sent, now
-        for echo in message.echoes:
-            delay = delay_of(self.clock + now, echo.sent, echo.held) if echo.source == self.number else None
-            if delay is not None:
-                self.delays[message.sender] = delay
-
-    def note(self, now: int, page: Page, marks: tuple[Mark, ...]) -> None:
-        """Whoever reports a number holds it. So an old timer of it starts anew."""
-        for mark in marks:
-            if mark.source == self.number and (now >= self.listens_until or mark.high >= FIRST_FORGED):
-                continue
-            self.told[page, mark.source] = max(mark.high, self.told.get((page, mark.source), 0))
-            name = Name(mark.source, page, mark.high)
-            timer = self.timers.requests.get(name)
-            if timer and timer.level >= OLD_LEVEL:
-                del self.timers.requests[name]
-                self.timers.missing(now, name, self.delay(name.source))
-        self.ask_for(now)
-
-    # ---- what it sends
+        """Request timers for what is missing, as many as may run. Each source has its share."""
+        lacking = self.lacking()
+        for page, source in lacking:
+            for name in islice(self.missing(page, source), max(1, MOST_TIMERS // len(lacking))):
+                if name not in self.requests and len(self.requests) < MOST_TIMERS:
+                    self.set_request(now, name, 0, self.delay(source))
 
     def draw(self, now: int, page: Page, operation: Operation) -> bytes:
         """A new drawop of this member. None while it listens."""
         assert now >= self.listens_until, "it listens"
-        last = max((it.time for it in self.held.values() if it.page == page), default=0)
-        drawop = Drawop(self.number, page, self.own_top(page) + 1, max(self.wall + now, last + 1), operation)
-        self.held[Name(drawop.source, page, drawop.seq)] = drawop
+        last = max((it.time for it in self.held.get(page, {}).values()), default=-1)
+        seq = self.tops.get(page, {}).get(self.number, 0) + 1
+        drawop = Drawop(self.number, page, seq, max(self.wall + now, last + 1), operation)
+        self.keep(drawop)
         return codec.write(drawop)
 
+    def timer_due(self) -> Optional[int]:
+        """When the next timer of a request or a repair fires."""
+        return min([it.due for it in self.requests.values()] + [it.due for it in self.repairs.values()], default=None)
+
     def due(self) -> int:
-        moments = [self.report_at, self.timers.due(), self.ask_at, self.answer_at]
+        moments = [self.report_at, self.timer_due(), self.ask_at, self.answer_at]
         return min(moment for moment in moments if moment is not None)
 
     def tick(self, now: int) -> list[bytes]:
         """What is due."""
-        asked, repaired = self.timers.fire(now)
-        sent: list[codec.Datagram] = [Request(self.number, *name) for name in asked]
-        sent += [self.held[name] for name in repaired]
-        if self.answer_at is not None and now >= self.answer_at:
+        sent: list[codec.Datagram] = []
+        for name, timer in list(self.requests.items()):
+            if timer.due <= now:
+                self.set_request(now, name, timer.level + 1, timer.delay)
+                sent.append(Request(self.number, *name))
+        for name, repair in list(self.repairs.items()):
+            if repair.due <= now:
+                del self.repairs[name]
+                self.held_down[name] = now + HOLD_DOWNS * repair.delay
+                sent.append(self.held[name.page][name.source, name.seq])
+        if self.answer_at is not None and self.answer_at <= now:
             self.answer_at, self.quiet_until = None, now + SECOND
-            sent += [PageState(self.number, page, self.slice(page, -1)) for page in self.pages()[:MOST_PAGES]]
-        if self.ask_at is not None and now >= self.ask_at:
+            sent += [PageState(self.number, page, self.marks(page)[:MOST_MARKS]) for page in sorted(self.held)[:MOST_PAGES]]
+        if self.ask_at is not None and self.ask_at <= now:
             self.ask_at = now + self.ask_wait // 2 + self.chance(self.ask_wait)
             self.ask_wait = min(2 * self.ask_wait, LONGEST)
             sent.append(AskPages(self.number))
-        if now >= self.report_at:
+        if self.report_at <= now:
             report = self.report(now)
-            members = 1 + sum(now - came < HEARD for _, came in self.heard.values())
+            members = 1 + sum(now - came <= HEARD for _, came in self.heard.values())
             mean = min(max(members * len(codec.write(report)) * SECOND // RATE, SHORTEST), LONGEST)
             self.report_at = now + mean // 2 + self.chance(mean)
             sent.append(report)
-        self.ask_for(now)
         return [codec.write(it) for it in sent]
-
-    def slice(self, page: Page, above: int) -> tuple[Mark, ...]:
-        return tuple(Mark(source, high) for source, high in self.marks(page).items() if source > above)[:MOST_MARKS]
 
     def report(self, now: int) -> SessionMessage:
         """The rest of the page that was reported last, or else the next page, with the echoes of those that were heard last."""
         page, last = self.reported
-        marks = self.slice(page, last)
-        if not marks:
-            pages = self.pages()
-            page = next((it for it in pages if it > page), pages[0] if pages else NOWHERE)
-            marks = self.slice(page, -1)
-        self.reported = page, marks[-1].source if marks else -1
+        left = [mark for mark in self.marks(page) if mark.source > last]
+        if not left:
+            pages = sorted(self.held) or [Page(0, 0)]
+            page = next((it for it in pages if it > page), pages[0])
+            left = list(self.marks(page))
+        if left:
+            self.reported = page, left[:MOST_MARKS][-1].source
         late = sorted(self.heard.items(), key=lambda it: -it[1][1])[:MOST_ECHOES]
-        if self.other and now - self.other[1] <= FRESH:
-            late.append((self.number, self.other))
-        echoes = sorted(Echo(sender, sent, now - came) for sender, (sent, came) in late)
-        self.sent.add(self.clock + now)
-        return SessionMessage(self.number, self.clock + now, page, marks, tuple(echoes))
-
-    def rows(self, page: Page, width: int, height: int) -> list[str]:
-        return painting.canvas(self.held.values(), page, width, height)
-
-    def stream(self) -> bytes:
-        """All drawops, by page, source and number."""
-        return b"".join(codec.write(self.held[name]) for name in sorted(self.held, key=lambda it: (it.page, it.source, it.seq)))
+        echoes = sorted(Echo(other, sent, now - came) for other, (sent, came) in late if other != self.number or now - came <= FRESH)
+        self.sent[self.clock + now] = now
+        return SessionMessage(self.number, self.clock + now, page, tuple(left[:MOST_MARKS]), tuple(echoes))

@@ -117,7 +117,7 @@ def test_both_ways(facts: Facts, tmp_path: Path, sealed: bool) -> None:
         live = session.live(7)
         draw_both(random.Random(first_seed()), live, station)
         facts("wb-live has all", comes(is_whole(live, 2 * DRAWOPS), LONGEST), True)
-        facts("the stranger has all", comes(lambda: station.ask(lambda it: len(it.held) == 2 * DRAWOPS * len(PAGES) and not it.missing()), LONGEST), True)
+        facts("the stranger has all", comes(lambda: station.ask(lambda it: it.count() == 2 * DRAWOPS * len(PAGES) and not it.lacking()), LONGEST), True)
         check_alike(facts, "both", live, station)
         facts("wb-live measures the delay to the stranger", knows(live, NUMBER), True)
         facts("the stranger measures the delay to wb-live", comes(lambda: 7 in station.member.delays, LONGEST), True)
@@ -142,8 +142,9 @@ def test_streams(facts: Facts, tmp_path: Path, sealed: bool) -> None:
         facts("a newcomer gets all from the stranger", comes(is_whole(newcomer, MANY // 2 + 1), LONGEST), True)
         facts("by a stream", comes(lambda: station.streams_given >= 1, LONGEST), True)
         with session.stranger(NUMBER + 1) as other:
+            facts("the newcomer is a member", comes(lambda: other.trusts(newcomer.udp_port), LONGEST), True)
             taken = other.take_stream(newcomer.udp_port)
-            facts("another stranger gets all of the newcomer's stream", (taken > 0, len(other.member.held)), (True, MANY + 2))
+            facts("another stranger gets all of the newcomer's stream", (taken > 0, other.member.count()), (True, MANY + 2))
             check_alike(facts, "the newcomer and the other", newcomer, other)
         facts("the newcomer ends with 0", newcomer.end(), 0)
 
@@ -155,4 +156,7 @@ def test_twins(facts: Facts, tmp_path: Path) -> None:
         live = session.live(NUMBER)
         facts("wb-live sees its twin", live.wait_for(lambda states: states["hello"]["twin"]), True)
         facts("the stranger sees it too", comes(lambda: station.member.has_twin, LONGEST), True)
+        with station.lock:
+            station.member.renumber()
+        facts("wb-live measures the delay to its new number", knows(live, station.member.number), True)
         facts("wb-live ends with 0", live.end(), 0)

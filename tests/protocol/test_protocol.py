@@ -98,10 +98,16 @@ def vectors(file: str, kind: str, name: str) -> list[Any]:
 
 @pytest.mark.parametrize("vector", vectors("datagrams.json", "datagrams", "words"))
 def test_vector(vector: dict[str, str]) -> None:
-    data = bytes.fromhex(vector["hex"])
+    """Both ways, as it comes in and as it is sent; without its last bytes, and with one more."""
+    data, words = bytes.fromhex(vector["hex"]), vector["words"]
     read = codec.read(data)
-    assert read and words_of(read) == vector["words"]
-    assert asked(["words"], [line_of(data)]) == [vector["words"]]
+    assert read and words_of(read) == words and codec.write(read) == data
+    assert asked(["words"], [line_of(data), f"send {data.hex()}"]) == [words, f"send {words}"]
+    assert asked(["hex"], [words, f"send {words}"]) == [line_of(data), f"send {data.hex()}"]
+    other = [*(data[:size] for size in range(1, len(data))), data + b"\0"]
+    assert [codec.read(it) for it in other] == [None] * len(other)
+    told = asked(["words", "--keep-going"], [f"hear {it.hex()}" for it in other])
+    assert told == [f"# line {number}: word 2: datagram {1 if number < len(other) else 5}" for number in range(1, len(other) + 1)]
 
 
 @pytest.mark.parametrize("vector", vectors("datagrams.json", "not datagrams", "why"))
@@ -109,6 +115,11 @@ def test_vector_that_is_no_datagram(vector: dict[str, str]) -> None:
     data = bytes.fromhex(vector["hex"])
     assert codec.read(data) is None
     assert asked(["words", "--keep-going"], [line_of(data)]) == [f"# line 1: word 2: datagram {vector['fault']}"]
+
+
+@pytest.mark.parametrize("vector", vectors("datagrams.json", "not words", "words"))
+def test_vector_that_is_no_datagram_in_words(vector: dict[str, str]) -> None:
+    assert asked(["host"], ["board 1 1 1 1", f"say {vector['words']}"]) == ["ok never", f"refused {vector['fault']}"]
 
 
 @pytest.mark.parametrize("vector", vectors("pages.json", "pages", "shows"))

@@ -14,10 +14,9 @@ import pytest
 
 from ..host.program import TOP, host
 from . import codec
-from .member import LISTENING, Member
+from .member import LISTENING, UNKNOWN_DELAY, Member, delay_of
 from .sealed_vectors import DRAWOPS, GIVEN, OURS
 from .timer_vectors import PAGE, silent
-from .timers import UNKNOWN_DELAY, delay_of
 from .vectors import write_all
 from .words import words_of
 
@@ -64,13 +63,13 @@ def test_life_by_the_program(vector: dict[str, Any]) -> None:
 def test_life_by_the_member(vector: dict[str, Any]) -> None:
     numbers: list[int] = [number for step in vector["steps"] for number in step["random"]]
     member = silent(1)
-    member.timers.chance = lambda most: numbers.pop(0)
+    member.chance = lambda most: numbers.pop(0)
     for step in vector["steps"]:
         sent = member.tick(step["at"])
         if "hex" in step:
             member.come(step["at"], bytes.fromhex(step["hex"]))
         assert [words_of(it) for it in map(codec.read, sent) if it] == step["sends"]
-        assert member.timers.due() == step["due"], step
+        assert member.timer_due() == step["due"], step
     assert not numbers
 
 
@@ -95,14 +94,16 @@ def test_echoes() -> None:
 
 @needs_seals
 def test_sealed_by_the_member() -> None:
-    from .envelope import Seal
+    from .envelope import VERSION, Seal
 
     ours, theirs = (Seal(SEALED["key"], SEALED["session"], bytes.fromhex(sender)) for sender in (SEALED["sender"], "00" * 8))
     for it in SEALED["datagrams"]:
         sealed = bytes.fromhex(it["sealed"])
         assert ours.wrap(bytes.fromhex(it["datagram"]), bytes.fromhex(it["nonce"])) == sealed
-        assert [theirs.unwrap(sealed), theirs.unwrap(sealed), ours.unwrap(sealed)] == [bytes.fromhex(it["datagram"]), None, None]
-    assert [theirs.unwrap(bytes.fromhex(it["sealed"])) for it in SEALED["dropped"]] == [None] * len(SEALED["dropped"])
+        assert [it.unwrap(sealed)[1].hex() for it in (theirs, theirs, ours)] == [it["datagram"], "", ""]
+    assert [theirs.unwrap(bytes.fromhex(it["sealed"]))[1] for it in SEALED["dropped"]] == [b""] * len(SEALED["dropped"])
+    counted = [VERSION + bytes(7) + b"\x09" + counter.to_bytes(8, "big") + b"x" for counter in (100, 36, 35, 100)]
+    assert [theirs.unwrap(theirs.close(it))[1] for it in counted] == [b"x", b"x", b"", b""]
 
 
 @needs_seals
@@ -183,10 +184,22 @@ def test_old_timer() -> None:
     """A mark of its very number sets a timer of level 4 anew, and no other does."""
     member = silent(1)
     member.come(0, codec.write(codec.PageState(9, PAGE, (codec.Mark(7, 2),))))
-    first, second = sorted(member.timers.requests)
+    first, second = sorted(member.requests)
     for level in range(1, 5):
-        member.come(member.timers.requests[second].due, codec.write(codec.PageState(9, PAGE, (codec.Mark(7, 2),))))
-        member.tick(max(timer.due for timer in member.timers.requests.values()))
-        assert [member.timers.requests[it].level for it in (first, second)] == [level, level]
+        member.come(member.requests[second].due, codec.write(codec.PageState(9, PAGE, (codec.Mark(7, 2),))))
+        member.tick(max(timer.due for timer in member.requests.values()))
+        assert [member.requests[it].level for it in (first, second)] == [level, level]
     member.come(1 << 30, codec.write(codec.PageState(9, PAGE, (codec.Mark(7, 2),))))
-    assert [member.timers.requests[it].level for it in (first, second)] == [4, 0]
+    assert [member.requests[it].level for it in (first, second)] == [4, 0]
+
+
+def test_strangers() -> None:
+    """An origin that echoes a moment of ours is a member's, and its number stays there."""
+    member, drawop = silent(1), codec.write(codec.Drawop(7, PAGE, 1, 1, codec.Text(0, 0, b"a")))
+    member.come(5, drawop, "here")
+    assert member.count() == 0
+    echo = codec.Echo(1, member.report(5).sent, 0)
+    member.come(6, codec.write(codec.SessionMessage(7, 9, PAGE, (), (echo,))), "here")
+    member.come(7, drawop, "here")
+    member.come(8, codec.write(codec.SessionMessage(7, 9, PAGE, (codec.Mark(7, 5),), ())), "elsewhere")
+    assert (member.count(), member.lacking()) == (1, [])

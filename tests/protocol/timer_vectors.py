@@ -9,8 +9,7 @@ from typing import Optional
 from ..host.datagrams import Words
 from . import codec
 from .codec import LINE, Datagram, Drawop, Echo, Mark, Page, Request, SessionMessage, Shape
-from .member import Member
-from .timers import delay_of
+from .member import Member, delay_of
 from .words import words_of
 
 PAGE, ME, SOURCE, OTHER = Page(7, 1), 1, 7, 9
@@ -44,7 +43,7 @@ class Life:
     def __init__(self, seed: int) -> None:
         self.words, self.member, self.now = Words(seed), silent(ME), 0
         self.drawn: list[int] = []
-        self.member.timers.chance = lambda most: self.take(self.words.next(), most)
+        self.member.chance = lambda most: self.take(self.words.next(), most)
         self.steps: list[Step] = []
 
     def take(self, word: int, most: int) -> int:
@@ -54,12 +53,12 @@ class Life:
     def comes(self, at: int, datagram: Datagram) -> None:
         """A program takes a word for each request, used or not."""
         self.now = at
-        usual = self.member.timers.chance
+        usual = self.member.chance
         if isinstance(datagram, Request):
             word = self.words.next()
-            self.member.timers.chance = lambda most: self.take(word, most)
+            self.member.chance = lambda most: self.take(word, most)
         self.member.come(at, codec.write(datagram))
-        self.member.timers.chance = usual
+        self.member.chance = usual
         self.note({"comes": words_of(datagram), "hex": codec.write(datagram).hex()}, [])
 
     def fires(self) -> None:
@@ -69,7 +68,7 @@ class Life:
         self.note({}, [codec.read(data) for data in self.member.tick(due)])
 
     def due(self) -> Optional[int]:
-        return self.member.timers.due()
+        return self.member.timer_due()
 
     def note(self, what: Step, sent: list[Optional[Datagram]]) -> None:
         self.steps.append({"at": self.now, **what, "random": self.drawn, "sends": [words_of(it) for it in sent if it], "due": self.due()})

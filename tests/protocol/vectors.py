@@ -51,14 +51,15 @@ DATAGRAMS: list[Datagram] = [
 ]
 
 
-def changed(datagram: Datagram, at: int, value: str) -> str:
+def changed(datagram: Datagram | str, at: int, value: str) -> str:
     """The digits of a datagram with other bytes at a place."""
-    digits = write(datagram).hex()
+    digits = datagram if isinstance(datagram, str) else write(datagram).hex()
     return digits[:2 * at] + value + digits[2 * at + len(value):]
 
 
 # what is not a datagram: the digits, the number of the fault in docs/SCRIPTS.md, and why
 BASE, MARKS = DATAGRAMS[0], DATAGRAMS[-1]
+TWO_MARKS = SessionMessage(8, 0, Page(7, 4), (Mark(7, 1), Mark(9, 1)), ())
 NOT_DATAGRAMS = [
     ("574201", 1, "fewer than 8 bytes"),
     (changed(BASE, 0, "5743"), 2, "another mark"),
@@ -78,7 +79,66 @@ NOT_DATAGRAMS = [
     (changed(drawn(4, text(0, 0, "ab")), 39, "7f"), 8, "a letter beyond ASCII's printable ones"),
     (changed(drawn(7, Aim(DELETE, 7, 1)), 33, "0000000700000007"), 8, "a delete of itself"),
     (changed(MARKS, 30, "00000007"), 9, "two marks of one source"),
+    # of two faults, the one that is looked for first
+    (changed(BASE, 0, "584209"), 2, "another mark, before another version"),
+    (changed(BASE, 2, "0909"), 3, "version 9, before another kind"),
+    (changed(BASE, 3, "06")[:40], 4, "kind 6, before bytes that are missing"),
+    (changed(BASE, 7, "19")[:64] + "06", 7, "operation 6, before its fields, which are missing"),
+    (changed(changed(BASE, 20, "00000000") + "00", 7, "23"), 6, "a byte behind a line, before its sequence number 0"),
+    (changed(changed(drawn(5, text(0, 0, "a" * 41)), 2, "01"), 33, "1000"), 8, "column 4,096, before 41 letters of version 1"),
+    (changed(TWO_MARKS, 30, "00000009000000010000000700000000"), 8, "a mark of 0, before its source out of order"),
+    (changed(TWO_MARKS, 7, "22")[:84], 6, "a mark that is cut off"),
+    (changed(changed(TWO_MARKS, 7, "22")[:84], 34, "00000000"), 8, "a mark of 0, before one that is cut off"),
+    # sizes
+    (changed(BASE, 7, "21")[:-2], 6, "a line without its glyph"),
+    (changed(BASE, 7, "23") + "00", 6, "a line with one byte more"),
+    (changed(Request(8, 7, Page(7, 4), 2), 7, "13")[:-2], 6, "a request of 19 bytes"),
+    (changed(drawn(5, text(0, 0, "a" * 41)), 37, "40"), 6, "a text with fewer letters than it tells"),
+    (changed(TWO_MARKS, 28, "ffff"), 6, "fewer marks than are told"),
+    (changed(TWO_MARKS, 7, "29") + "00", 6, "a byte behind the lists"),
+    # kinds and numbers of each version
+    (changed(BASE, 2, "00"), 3, "version 0"),
+    (changed(BASE, 3, "00"), 4, "kind 0"),
+    (changed(TWO_MARKS, 2, "02"), 4, "a session message of version 2"),
+    (changed(BASE, 2, "02"), 7, "a line of version 2"),
+    (changed(drawn(7, Aim(DELETE, 7, 1)), 2, "02"), 7, "a delete of version 2"),
+    (changed(BASE, 32, "05"), 7, "operation 5 of version 1, before its size"),
+    # fields
+    (changed(Request(8, 7, Page(7, 4), 2), 24, "00000000"), 8, "a request for sequence number 0"),
+    *((f"57420{version}010000{24 + 6 + size:04x}{'00000007' * 3}{1:08x}{10:016x}0300000000{size:02x}{'61' * size}", 8, f"{size} letters of version {version}")
+      for version in (1, 2) for size in (0, 65, 255)),
+    (changed(drawn(6, text(0, 0, "z" * 64)), 101, "7f"), 8, "the last of 64 letters beyond ASCII's printable ones"),
+    # lists
+    (changed(TWO_MARKS, 30, "0000000a"), 9, "marks of falling sources"),
+    (changed(SessionMessage(8, 0, FIRST, (), (Echo(7, 0, 0), Echo(9, 0, 0))), 32, "0000000a"), 9, "echoes of falling sources"),
+    (changed(TWO_MARKS, 34, "00000000"), 8, "a mark of 0"),
 ]
+
+# lines without a datagram in words, and which word is wrong
+NOT_WORDS = [(line, fault) for fault, lines in {
+    "word 1: unknown": ["", "board 1 16 1 42", " request 8 7 7/4 2", "Request 8 7 7/4 2"],
+    "word 2: missing": ["request"],
+    "word 2: number": ["request  8 7 7/4 2", "request 08 7 7/4 2", "request +8 7 7/4 2", "request 4294967296 7 7/4 2"],
+    "word 4: page": ["request 8 7 7 4 2", "request 8 7 7/ 2", "request 8 7 7/4/1 2"],
+    "word 5: sequence number 0": ["request 8 7 7/4 0", "request 8 7 7/4 0 9", "session-message 8 0 7/4 7=0"],
+    "word 5: number": ["draw 7 7/1 1 18446744073709551616 line 0 1 4 1 *"],
+    "word 6: one too many": ["request 8 7 7/4 2 "],
+    "word 6: operation": ["draw 7 7/1 1 10 circle 0 1 4 1 *"],
+    "word 9: number": ["draw 7 7/1 1 10 line 0 1 4096 1 *"],
+    "word 11: glyph": ["draw 7 7/1 1 10 line 0 1 4 1 **"],
+    "word 11: glyph outside ! to ~": ["draw 7 7/1 1 10 line 0 1 4 1 \x7f"],
+    "word 12: one too many": ["draw 7 7/1 1 10 line 0 1 4 1 * *"],
+    "word 9: missing": ["draw 8 7/1 1 10 text 1 1"],
+    "word 9: text": [f"draw 8 7/1 1 10 text 1 1 {text}" for text in ('ab', '"ab', '"a"b"', '"a\\b"', '"ab" ')],
+    "word 9: text of 0 or over 64 bytes": ['draw 8 7/1 1 10 text 1 1 ""'],
+    "word 8: target is the drawop itself": ["draw 7 7/1 2 5 delete 7 2"],
+    "word 8: target sequence number 0": ["draw 7 7/1 2 5 delete 7 0"],
+    "word 6: order": ["session-message 8 0 7/4 7=7 7=8"],
+    "word 6: echo": ["session-message 8 0 7/4 8@0+50 7=7"],
+    "word 5: echo": ["session-message 8 0 7/4 8@0"],
+    "word 5: mark": ["session-message 8 0 7/4 x"],
+    "word 5: one too many": ["page-state 1 7/4 7=1 8@0+50"],
+}.items() for line in lines]
 
 PAGES: list[tuple[str, list[Drawop]]] = [
     ("a line, a frame and a text", [drawn(1, line(0, 1, 4, 1)), drawn(2, frame(3, 2, 10, 6)), drawn(3, text(1, 3, 'say "hi"'))]),
@@ -104,9 +164,10 @@ PAGES: list[tuple[str, list[Drawop]]] = [
 
 def datagram_vectors() -> dict[str, object]:
     return {
-        "what": "Datagrams in hexadecimal and in words, and bytes that are no datagrams, with the number of the fault (docs/PROTOCOL.md, docs/SCRIPTS.md)",
+        "what": "Datagrams in hexadecimal and in words; bytes that are no datagrams, with the number of the fault; and lines that are none, with the word that is wrong (docs/PROTOCOL.md, docs/SCRIPTS.md)",
         "datagrams": [{"words": words_of(it), "hex": write(it).hex()} for it in DATAGRAMS],
         "not datagrams": [{"why": why, "fault": fault, "hex": digits} for digits, fault, why in NOT_DATAGRAMS],
+        "not words": [{"words": words, "fault": fault} for words, fault in NOT_WORDS],
     }
 
 

@@ -1,12 +1,16 @@
-"""Scripts, what each prints and how it ends, worked out by hand. In a line `board`, W stands for the number of workers. The
-rows of a canvas stand between bars."""
+"""Scripts, what each prints and how it ends, worked out by hand: those of transcripts/*.md, and those that are made here. In a line `board`, W stands for
+the number of workers."""
 
 from __future__ import annotations
 
+import re
 from dataclasses import dataclass
 from itertools import permutations
+from pathlib import Path
 
-from ..host.datagrams import Words, delete, drawn, drawop, frame, line, page_state, request, restore, session, text
+from ..host import datagrams
+from ..host.datagrams import Words, delete, drawn, drawop, line, request, restore, session, text
+from ..transcripts import SCRIPT, parted, read
 
 
 @dataclass(frozen=True)
@@ -39,7 +43,8 @@ LONG = drawop(8, PAGE, 5, 30, text(0, 0, 41 * "x"))
 
 
 def arrivals(*datagrams: str) -> str:
-    return "\n".join(f"arrive {datagram}" for datagram in datagrams)
+    """Lines of a transcript, behind the mark of the first."""
+    return "\n> ".join(f"arrive {datagram}" for datagram in datagrams)
 
 
 def dot(seq: int) -> str:
@@ -62,322 +67,23 @@ def of_version(version: int, datagram: str) -> str:
     return f"{datagram[:4]}{version:02x}{datagram[6:]}"
 
 
-DRAWN = [
-    Script("a line on a page", f"""
-board 1 16 W 42
-arrive {STARS}
-show 7 1 5 3
-""", """
-batch 1 0 0 0
-|     |
-|*****|
-|     |
-"""),
-    Script("a delete that comes before what it deletes", f"""
-board 1 16 W 42
-{arrivals(DELETED, STARS)}
-show 7 1 5 3
-""", """
-batch 2 0 0 0
-|     |
-|     |
-|     |
-"""),
-    Script("a delete of what never comes does nothing, and neither does one of a delete", f"""
-board 1 16 W 42
-{arrivals(STARS, NOTHING_DELETED)}
-show 7 1 5 3
-{arrivals(DELETED, DELETE_DELETED)}
-show 7 1 5 3
-""", """
-batch 2 0 0 0
-|     |
-|*****|
-|     |
-batch 2 0 0 0
-|     |
-|     |
-|     |
-"""),
-    Script("of two drawops of one time, that of the greater source is on top", f"""
-board 1 16 W 42
-{arrivals(AB, CD)}
-show 7 1 5 3
-""", """
-batch 2 0 0 0
-|     |
-| acd |
-|     |
-"""),
-    Script("the same, when they arrive the other way round", f"""
-board 1 16 W 42
-{arrivals(CD, AB)}
-show 7 1 5 3
-""", """
-batch 2 0 0 0
-|     |
-| acd |
-|     |
-"""),
-    Script("a slope from either end, a dot, a line beside the canvas, and a frame", f"""
-board 1 16 W 42
-arrive {drawop(7, SLOPES, 1, 1, line(0, 0, 2, 1, "a"))}
-arrive {drawop(7, SLOPES, 2, 2, line(2, 1, 0, 0, "b"))}
-show 7 2 3 2
-arrive {drawop(7, SLOPES, 3, 3, line(2, 0, 2, 0, "c"))}
-arrive {drawop(7, SLOPES, 4, 4, line(10, 10, 20, 10, "d"))}
-show 7 2 3 2
-arrive {drawop(7, FRAMED, 1, 1, frame(1, 0, 3, 2, "#"))}
-show 7 3 5 3
-""", """
-batch 2 0 0 0
-|bb |
-| ab|
-batch 2 0 0 0
-|bbc|
-| ab|
-batch 1 0 0 0
-| ### |
-| # # |
-| ### |
-"""),
-    Script("a flat slope", f"""
-board 1 16 W 42
-arrive {drawop(7, SLOPES, 1, 1, line(0, 0, 3, 2, "a"))}
-show 7 2 4 3
-""", """
-batch 1 0 0 0
-|a   |
-| aa |
-|   a|
-"""),
-    Script("a steep slope", f"""
-board 1 16 W 42
-arrive {drawop(7, SLOPES, 1, 1, line(0, 0, 1, 3, "a"))}
-show 7 2 2 4
-""", """
-batch 1 0 0 0
-|a |
-|a |
-| a|
-| a|
-"""),
-    Script("a restore shows what was deleted, until the next delete", f"""
-board 1 16 W 42
-{arrivals(DELETED, STARS, RESTORED)}
-show 7 1 5 3
-arrive {DELETED_AGAIN}
-show 7 1 5 3
-""", """
-batch 3 0 0 0
-|     |
-|*****|
-|     |
-batch 1 0 0 0
-|     |
-|     |
-|     |
-"""),
-    Script("a text of version 2", f"""
-board 1 16 W 42
-arrive {LONG}
-show 7 1 42 1
-""", """
-batch 1 0 0 0
-|xxxxxxxxxxxxxxxxxxxxxxxxxxxxxxxxxxxxxxxxx |
-"""),
-    Script("each drawop once, of eight that arrive", f"""
-board 1 16 W 42
-{arrivals(STARS, AB, CD, STARS, AB, CD, STARS, AB)}
-show 7 1 5 3
-""", """
-batch 3 5 0 0
-|     |
-|*acd*|
-|     |
-"""),
-    Script("fewer cells than workers", f"""
-board 1 3 W 42
-{arrivals(STARS, AB, CD)}
-""", """
-batch 3 0 0 0
-"""),
-]
+def written(file: str) -> list[Script]:
+    """Those of a file of transcripts."""
+    found = []
+    for it in read(Path(__file__).parent / "transcripts" / file, SCRIPT, {**vars(datagrams), **globals()}):
+        lines, prints = parted(it.text)
+        found.append(Script(it.shows, lines, prints, "".join(re.findall(r"^! (.*)", it.text, re.MULTILINE))))
+    return found
+
+
+DRAWN, KNOWN, WORDED = written("drawn.md"), written("known.md"), written("worded.md")
+REFUSED = [*written("refused.md"), Script("more sources than a page has", f"board 1 16 W 42\n{many_sources()}", "", "wb: line 18: too many")]
 
 # A page is the same in whatever order its drawops arrive
 ORDERS = [
-    Script(f"deletes and restores, order {number}", f"""
-board 1 16 W 42
-{arrivals(*order)}
-show 7 1 5 3
-""", """
-batch 4 0 0 0
-|     |
-|     |
-|     |
-""")
+    Script(f"deletes and restores, order {number}", "\n".join(["board 1 16 W 42", *(f"arrive {it}" for it in order), "show 7 1 5 3"]),
+           "batch 4 0 0 0\n" + "     \n" * 3)
     for number, order in enumerate(permutations([DELETED, STARS, RESTORED, DELETED_AGAIN]), 1)
-]
-
-KNOWN = [
-    Script("gaps between what is held, up to what was told, and a report of what is held", f"""
-board 1 16 W 42
-{arrivals(dot(1), dot(2), dot(5))}
-hear {told(7)}
-gaps 7 4
-report 7 4
-""", """
-batch 3 0 0 0
-gaps 2
-7 3 4
-7 6 7
-report 1
-7 5
-"""),
-    Script("the longest gap below a drawop, of which a look sets 64 timers", f"""
-board 1 16 W 42
-arrive {drawop(7, DOTS, HIGHEST, 1, line(0, 0, 0, 0, "."))}
-gaps 7 4
-look 7 4
-""", """
-batch 1 0 0 0
-gaps 1
-7 1 4294967294
-look 64
-"""),
-    Script("the longest gap that can be told, and a second look, which sets no timer", f"""
-board 1 16 W 42
-hear {told(HIGHEST)}
-gaps 7 4
-look 7 4
-look 7 4
-""", """
-gaps 1
-7 1 4294967295
-look 64
-look 0
-"""),
-]
-
-REFUSED = [
-    Script("a question before there is a board", "pages", "", "wb: line 1: no board"),
-    Script("a second board", "board 1 16 W 42\nboard 1 16 W 42", "", "wb: line 2: second board"),
-    Script("more workers than eight", "board 1 16 9 42", "", "wb: line 1: number"),
-    Script("a moment before the present one", "board 1 16 W 42\ntick 5\ntick 4", "", "wb: line 3: back in time"),
-    Script("a tick without its moment", "board 1 16 W 42\ntick", "", "wb: line 2: words"),
-    Script("a canvas that is too wide", "board 1 16 W 42\nshow 7 1 201 3", "", "wb: line 2: number"),
-    Script("half a byte", "board 1 16 W 42\narrive 5", "", "wb: line 2: hex"),
-    Script("a word of no script", "board 1 16 W 42\ndraws 7 7/1 1 10 line 0 1 4 1 *", "", "wb: line 2: unknown"),
-    Script("the arrival of a session message", f"board 1 16 W 42\narrive {told(7)}", "", "wb: line 2: kind"),
-    Script("a datagram that is cut off ends the batch before it", f"""
-board 1 16 W 42
-arrive {STARS}
-arrive 57
-""", """
-batch 1 0 0 0
-""", "wb: line 3: datagram 1"),
-    Script("more marks told than there are", f"""
-board 1 16 W 42
-hear {told(7).replace("00040001", "0004ffff")}
-""", "", "wb: line 2: datagram 6"),
-    Script("more sources than a page has", f"board 1 16 W 42\n{many_sources()}", "", "wb: line 18: too many"),
-]
-
-# Datagrams that do not say whether they arrive or are heard: by their bytes, and in words
-WORDED = [
-    Script("a batch of drawops by their bytes and in words, between which lines are skipped", f"""
-board 1 16 W 42
-arrive {STARS}
-datagram {AB}
-
-# the third is in words
-draw 9 7/1 1 10 text 2 1 "cd"
-datagram {STARS}
-draw 9 7/1 1 10 text 2 1 "cd"
-show 7 1 5 3
-""", """
-batch 3 2 0 0
-|     |
-|*acd*|
-|     |
-"""),
-    Script("another drawop of one name, in words", f"""
-board 1 16 W 42
-arrive {STARS}
-distance 7 5
-draw 7 7/1 1 10 line 0 1 4 1 +
-show 7 1 5 2
-""", """
-batch 1 0 0 0
-batch 0 0 1 0
-|     |
-|*****|
-"""),
-    Script("an operation of each kind in words", """
-board 1 16 W 42
-draw 7 7/1 1 10 frame 0 0 4 2 #
-draw 7 7/1 2 11 line 0 1 4 1 *
-draw 8 7/1 1 12 delete 7 2
-show 7 1 5 3
-draw 8 7/1 2 13 restore 7 2
-draw 8 7/1 3 14 text 1 1 "\\"q\\""
-show 7 1 5 3
-""", """
-batch 3 0 0 0
-|#####|
-|#   #|
-|#####|
-batch 2 0 0 0
-|#####|
-|*"q"*|
-|#####|
-"""),
-    Script("a session message in words ends the batch, and tells what is missing", f"""
-board 1 16 W 42
-datagram {dot(1)}
-session-message 8 0 7/4 7=3 8=1
-gaps 7 4
-""", """
-batch 1 0 0 0
-gaps 2
-7 2 3
-8 1 1
-"""),
-    Script("a session message by its bytes", f"""
-board 1 16 W 42
-datagram {told(3)}
-gaps 7 4
-""", """
-gaps 1
-7 1 3
-"""),
-    Script("a request by its bytes is repaired, and so is one in words", f"""
-board 1 16 W 42
-datagram {STARS}
-datagram {request(9, 7, PAGE, 1)}
-tick 900000
-tick 90000000
-request 9 7 7/1 1
-tick 99000000
-""", f"""
-batch 1 0 0 0
-send {STARS}
-send {STARS}
-"""),
-    Script("a question for the pages in words, and a page state", f"""
-board 1 16 W 42
-datagram {dot(1)}
-page-state 8 7/9 8=2
-ask-pages 9
-gaps 7 9
-""", f"""
-batch 1 0 0 0
-send {page_state(1, DOTS, [(7, 1)])}
-gaps 1
-8 1 2
-"""),
-    Script("a drawop in words before there is a board", "draw 7 7/1 1 10 line 0 1 4 1 *", "", "wb: line 1: no board"),
-    Script("a datagram before there is a board", f"# none\ndatagram {told(3)}", "", "wb: line 2: no board"),
 ]
 
 

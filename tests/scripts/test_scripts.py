@@ -18,12 +18,6 @@ def given(script: Script, workers: int) -> bytes:
     return (script.lines.strip("\n").replace(" W ", f" {workers} ") + "\n").encode()
 
 
-def printed(script: Script) -> bytes:
-    """What it prints: the rows of a canvas have no bars."""
-    lines = script.prints.strip("\n").splitlines()
-    return "".join(f"{line[1:-1] if line.startswith('|') else line}\n" for line in lines).encode()
-
-
 def ended(text: bytes, ends: str) -> Ended:
     return Ended(1, text, f"{ends}\n".encode()) if ends else Ended(0, text, b"")
 
@@ -34,7 +28,7 @@ def otherwise(script: Script) -> dict[str, Ended]:
     for workers in WORKERS:
         found[f"{workers} by the board"] = run(["run"], given(script, workers))
         found[f"{workers} by a word"] = run(["run", "--workers", str(workers)], given(script, 1))
-    want = ended(printed(script), script.ends)
+    want = ended("".join(f"{line}\n" for line in script.prints.splitlines()).encode(), script.ends)
     return {how: end for how, end in found.items() if end != want}
 
 

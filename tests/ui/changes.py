@@ -7,7 +7,7 @@ import math
 import time
 from pathlib import Path
 
-from ..live.browser import CONTROL, SHIFT, Browser, Missed
+from ..live.browser import CONTROL, SHIFT, Browser, Missed, all_came
 from .classroom import LOSSY, class_of
 from .inks import at, draw, gather, send
 from .sheets import Sheet, Tally
@@ -113,6 +113,31 @@ def test_order(tally: Tally, anna: Sheet, tom: Sheet) -> None:
     tally.check("and at the back again", anna.page.wait(f"{kinds} === '1,6'") and tom.page.wait(f"{kinds} === '1,6'"))
 
 
+def test_group(tally: Tally, anna: Sheet, tom: Sheet) -> None:
+    """Two rectangles are one: a click takes both, also of who did not make it so, and what is moved stays one until it is ungrouped."""
+    left = "wb.ink.items.filter(({ kind }) => kind === 'r').map(({ points: [{ x }] }) => Math.round(x * wb.view.wide / 64 - wb.view.corner()[0])).join()"
+    anna.page.key("Escape")
+    draw(anna, at(anna, (180, 415), (300, 480), (360, 520)))
+    anna.page.until("wb.hand.chosenItems().length === 2")
+    tally.check("two can be grouped, and are no group", anna.page.value("[document.getElementById('chosen-group').hidden, document.getElementById('chosen-ungroup').hidden].join()") == "false,true")
+    anna.press("#chosen-group")
+    joined = "wb.ink.items.filter((item) => wb.ink.kept.groupOf(item).length === 2).length"
+    tally.check("they are a group in both windows", anna.page.wait(f"{joined} === 2 && !wb.session.waiting.size") and tom.page.wait(f"{joined} === 2"))
+    tom.keys("v")
+    tom.page.click(*at(tom, (202, 465))[0])
+    tally.check("one click takes both", tom.page.wait("wb.hand.chosenItems().length === 2"))
+    draw(tom, at(tom, (202, 465), (260, 480), (302, 465)))
+    tally.check("both are moved", all_came(sheet.page.wait(f"{left} === '300,340' && {joined} === 2") for sheet in (anna, tom)), anna.page.value(left))
+    tom.press("#style [aria-label=green]")
+    tally.check("both get a colour, and stay a group", anna.page.wait(f"wb.ink.items.filter(({{ kind, colour }}) => kind === 'r' && colour === 4).length === 2 && {joined} === 2"))
+    tom.page.until("!wb.session.waiting.size && wb.hand.chosenItems().length === 2")
+    tom.page.key("g", CONTROL | SHIFT)
+    tally.check("and no group any more", anna.page.wait(f"{joined} === 0 && {left} === '300,340'") and tom.page.wait(f"{joined} === 0 && !wb.session.waiting.size"))
+    tom.page.key("Escape")
+    tom.page.click(*at(tom, (302, 465))[0])
+    tally.check("a click takes one", tom.page.wait("wb.hand.chosenItems().length === 1"))
+
+
 def test_after(tally: Tally, anna: Sheet, tom: Sheet) -> None:
     """After a reload undo takes back an item of several drawops at once."""
     before = tom.page.value("wb.ink.items.length")
@@ -130,5 +155,5 @@ def test_after(tally: Tally, anna: Sheet, tom: Sheet) -> None:
 
 def test_changes(tally: Tally, browser: Browser, room: Path, ports: int) -> None:
     with class_of(browser, room, ports, [("Anna", LOSSY), ("Tom", 0.0)]) as (anna, tom):
-        for test in (test_word, test_place, test_order, test_after):
+        for test in (test_word, test_place, test_order, test_group, test_after):
             test(tally, anna, tom)

@@ -34,8 +34,8 @@ def scroll(page: Page, down: float, held: int = 0) -> None:
 
 
 def is_followed(tally: Tally, name: str, anna: Sheet, tom: Sheet, is_so: bool) -> None:
-    """What stands about the sheet, at the face and in the panel, at once."""
-    tally.check(f"{name}: the frame", tom.page.wait(f"{FRAME} === {json.dumps(is_so)}", 1.0))
+    """What stands about the sheet, at the face and in the panel."""
+    tally.check(f"{name}: the frame", tom.page.wait(f"{FRAME} === {json.dumps(is_so)}"))
     tally.check(f"{name}: the face", tom.page.value(PRESSED) == str(is_so).lower())
     tally.check(f"{name}: the panel", tom.page.value("document.querySelector('#members button:not([hidden])').textContent") == ("Following" if is_so else "Follow"))
 
@@ -145,7 +145,7 @@ def test_call(tally: Tally, anna: Sheet, tom: Sheet) -> None:
     tally.check("who is called follows", tom.page.wait(FRAME))
     sees(tally, "to what is in view", anna, tom)
     tom.press("#unfollow")
-    tally.check("and may leave", tom.page.wait(f"!({FRAME})", 1.0) and not tom.page.wait(FRAME, 3.0))
+    tally.check("and may leave", tom.page.wait(f"!({FRAME})") and not tom.page.wait(FRAME, 3.0))
     tom.unfold("#call")
     tom.press("#call")
     tom.fold()

@@ -15,11 +15,20 @@ from .writing import Point
 # of each item its kind, its flag, and how many points it has
 FORMS = "JSON.stringify(wb.ink.items.map(({ kind, flag, points }) => kind === 's' ? [kind, 1 + points.filter(({ up }) => up).length] : [kind, flag, points.length]))"
 
+# of three lines of an item where each begins and ends on a picture of it, in units
+EXTENTS = """((item) => {
+    const canvas = document.createElement('canvas'), [width, height] = [1600, 690], brush = wb.files.sheetOf(canvas, width, height);
+    brush.translate(20 - item.points[0].x, -item.points[0].y);
+    wb.ink.paints.paint(brush, item, { wide: 64 });
+    const { data } = brush.getImageData(0, 0, width, height), high = height / 3, at = [0, 1, 2].map((line) => {
+        const dark = Array.from({ length: width }, (_, x) => x).filter((x) => Array.from({ length: high }, (_, y) => data[4 * ((line * high + y) * width + x)] < 128).some(Boolean));
+        return [dark[0], dark[dark.length - 1]];
+    });
+    return [at.map(([first]) => first), at.map(([, last]) => last)];
+})"""
+
 # a sentence from right to left, which ends with two letters that are broad, and full stops
 ARABIC = "\u0633\u0644\u0627\u0645..."
-
-# seconds after which a pen that rests holds its stroke straight
-HELD = 0.6
 
 
 def both(one: Sheet, other: Sheet, forms: list[list[object]]) -> bool | Missed:
@@ -59,7 +68,7 @@ def test_held(tally: Tally, anna: Sheet, tom: Sheet) -> None:
     anna.keys("p")
     way: list[Point] = [(150 + 20 * n, 300 + (6 if n % 2 else -6)) for n in range(8)]
     draw(anna, at(anna, *way), lifts=False)
-    tally.check("the pen rests", anna.page.wait("wb.pen.strokes?.isStraight", HELD + 5))
+    tally.check("the pen rests", anna.page.wait("wb.pen.strokes?.isStraight"))
     (x, y), = at(anna, (400, 340))
     anna.page.mouse("mouseMoved", x, y)
     lift(anna, (x, y))
@@ -118,10 +127,34 @@ def test_letters(tally: Tally, anna: Sheet, tom: Sheet) -> None:
         return [first, last, rows.slice(first, first + 12).reduce((a, b) => a + b), rows.slice(last - 11, last + 1).reduce((a, b) => a + b)];
     })()""")
     tally.check("the full stop of a line from right to left is at its left end", dark[2] * 2 < dark[3], str(dark))
-    tally.check("on paper too", tom.page.value("/text-anchor=.end. direction=.rtl./.test(wb.files.svg(wb.session.board))") is True)
+    tally.check("on paper too", tom.page.value("/text-anchor=.start. direction=.rtl./.test(wb.files.svg(wb.session.board))") is True)
+    anna.keys("t")
+    anna.page.click(*at(anna, (600, 420))[0])
+    anna.page.until("document.activeElement === wb.typing.box")
+    anna.page.call("Input.insertText", text=f"{ARABIC}\n{ARABIC} {ARABIC}\nabc")
+    anna.page.key("Enter")
+    tom.page.until("wb.ink.items.length === 3 && !wb.ink.waiting.length")
+    left, right = tom.page.value(f"{EXTENTS}(wb.ink.items[2])")
+    tally.check("lines from right to left end at the right, and others at the left", abs(right[0] - right[1]) < 6 and abs(left[1] - left[2]) < 6 and left[0] > left[1] + 100, f"{left} {right}")
+
+
+def test_edge(tally: Tally, anna: Sheet, tom: Sheet) -> None:
+    """The page ends at its edge, which is seen, and what is drawn beyond stays on it."""
+    for scheme in ("dark", "light"):
+        anna.wish(scheme)
+        anna.page.value("wb.view.fit(); wb.view.home(); 0")
+        anna.page.until("!wb.painter.isPlanned")
+        found, wanted = anna.page.value("""(() => {
+            const { view, painter: { brush, colours } } = wb, spelled = (x) => `#${[...brush.getImageData(x, 400, 1, 1).data.slice(0, 3)].map((part) => part.toString(16).padStart(2, '0')).join('')}`;
+            return [[3, view.pixelX(0) - 1, view.pixelX(0) + 7].map(spelled), [colours.desk, colours.edge, colours.paper]];
+        })()""")
+        tally.check(f"beyond its edge there is no paper ({scheme})", found == wanted and len(set(found)) == 3, f"{found} {wanted}")
+    before = int(tom.page.value("wb.ink.items.length"))
+    stroke(anna, (4, 560), (40, 560), (90, 560))
+    tally.check("a stroke from beyond begins at the edge", tom.page.wait(f"wb.ink.items.length === {before + 1} && wb.ink.items.at(-1).points[0].x < 10"), str(tom.page.value("wb.ink.items.at(-1).points[0]")))
 
 
 def test_forms(tally: Tally, browser: Browser, room: Path, ports: int) -> None:
     with class_of(browser, room, ports, [("Anna", 0.0), ("Tom", LOSSY)]) as (anna, tom):
-        for test in (test_shapes, test_held, test_parts, test_letters):
+        for test in (test_shapes, test_held, test_parts, test_letters, test_edge):
             test(tally, anna, tom)

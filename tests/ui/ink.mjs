@@ -9,7 +9,7 @@ import { Items, itemsOf } from '../../live/ui/inkitems.js';
 import { readLetters, writeLetters } from '../../live/ui/inkletters.js';
 import { svgOfInk } from '../../live/ui/inksvg.js';
 import { FIRST_ROW, PAGE_HIGH, PAGE_WIDE, numberOf, spelled, valueFor, wayOf } from '../../live/ui/inksigns.js';
-import { isAgain, keptInks, movedInk, placed, recoloured, restyled, writeLink, writeShape, writeStroke, writeWords } from '../../live/ui/inkwriting.js';
+import { isAgain, isJoined, joined, keptInks, movedInk, placed, recoloured, restyled, writeLink, writeShape, writeStroke, writeWords } from '../../live/ui/inkwriting.js';
 import { awayFrom } from './away.mjs';
 
 const wrong = [];
@@ -200,6 +200,9 @@ function testMoves({ reads }) {
   check('not off the page', [movedInk('~s$1!hV#HJ', -6401, 0), movedInk('~s$1!hV#HJ', 0, 479520), movedInk('no ink', 1, 1)], [null, null, null]);
   check('as far as all stay on the page', keptInks([readInk('~s$1!hV#HJ'), readInk('~hC2!!!!!!sOsP')], -50, 1e6), [0, 479519]);
   check('places of inks', [0, 62, 63, 6047, 6048].map((n) => placed('', n)).map(({ x, y }) => [x, y]), [[0, 4000], [3968, 4000], [0, 4001], [3968, 4095], [0, 4000]]);
+  const [first, joint] = [placed('', 62, true, true), placed('', 1, false, true)];
+  check('of one that is joined to the one before', [first.x, joint.x, isJoined(first), isAgain(first), isJoined(joint), isAgain(joint), isJoined(placed('', 1, true)), isJoined({ ...joint, x: 70 })], [3971, 66, true, true, true, false, false, false]);
+  check('and no more', [joined(joint, false).x, joined(joint, true).x, joined(placed('', 1), true).x, joined({ ...joint, y: 9 }, false).x], [64, 66, 66, 66]);
   check('of one that stands for others', [placed('', 62, true).x, isAgain(placed('', 62, true)), isAgain(placed('', 62)), isAgain({ ...placed('', 1, true), y: 3999 })], [3969, true, false, false]);
   const look = { colour: 1, width: 4, size: 5, font: 2, isDashed: true, fill: 2 }, anew = (text) => (({ kind, colour, width, flag, goesOn }) => [kind, colour, width, flag, goesOn].join(' '))(readInk(restyled(text, look)));
   check('in another look, what each kind has of it', ['~sHb!->!XBYYYE', '~l11!!!!!!!!!!!!', '~r11!!!!!!!!!!!!', '~n11!!!!!!!!!!!!', "~t'2@|E](YE = mc~!T", '~hC2!!!!!!sOsP'].map(anew),
@@ -305,11 +308,23 @@ function testOrders() {
   check('an item by the name of a drawing', items.itemOf(1, 2) === items.list[1], true);
 }
 
+/** Of four inks of one source the second and the third are joined to those before them. */
+function testGroups() {
+  const items = new Items(), all = [false, true, true, false].map((is, i) => ({ ...placed(`~l1${i}!({!/&!hV!<*`, i, true, is), source: 1, seq: 5 + i, time: String(9 - i) }));
+  const numbers = (list) => list.map(({ drawings: [{ seq }] }) => seq), marks = (list) => items.inGroups(list).map(({ drawings: [{ seq, x }] }) => [seq, x % 64]);
+  items.show(all);
+  check('a group from any of its items', items.list.map((item) => numbers(items.groupOf(item))), [[8], [5, 6, 7], [5, 6, 7], [5, 6, 7]]);
+  check('its items follow one another', marks(), [[8, 1], [5, 1], [6, 3], [7, 3]]);
+  check('which of them follow none are joined to none', marks(items.list.filter((item) => item !== items.itemOf(1, 6))), [[8, 1], [5, 1], [7, 1]]);
+  items.show(all.filter(({ seq }) => seq !== 6));
+  check('without the middle one there are two', items.list.map((item) => numbers(items.groupOf(item))), [[8], [7], [5]]);
+}
+
 const [, , file, word] = process.argv, vectors = JSON.parse(readFileSync(file, 'utf8'));
 if (word === 'read') {
   const { texts, boards } = JSON.parse(readFileSync(0, 'utf8'));
   process.stdout.write(JSON.stringify({ texts: texts.map((text) => toldInk(readInk(text))), boards: boards.map(toldItems) }));
 } else {
-  for (const test of [testVectors, testBack, testSigns, testLetters, testStrokes, testCurves, testHands, testFree, testPieces, testShapes, testText, testSvg, testMoves, testLines, testOrders]) test(vectors);
+  for (const test of [testVectors, testBack, testSigns, testLetters, testStrokes, testCurves, testHands, testFree, testPieces, testShapes, testText, testSvg, testMoves, testLines, testOrders, testGroups]) test(vectors);
   console.log(JSON.stringify({ checked, wrong }));
 }

@@ -72,7 +72,7 @@ def test_pen_down(tally: Tally, served: Class, anna: Sheet, tom: Sheet) -> None:
     stroke = row(anna, 2)
     draw(anna, stroke[:10], lifts=False)
     served.kill()
-    tally.check("it is said at once that it is away", anna.page.wait(f"{STATE}.startsWith('Offline')", 10), str(anna.page.value(STATE)))
+    tally.check("it is said at once that it is away", anna.page.wait(f"{STATE}.startsWith('Offline')"), str(anna.page.value(STATE)))
     anna.page.go(stroke[10:])
     anna.page.mouse("mouseReleased", *stroke[-1])
     draw(anna, row(anna, 3))
@@ -107,7 +107,7 @@ def test_kills(tally: Tally, served: Class, anna: Sheet, tom: Sheet) -> None:
 def test_gone(tally: Tally, served: Class, anna: Sheet, tom: Sheet, browser: Browser) -> None:
     """Under another address the page says so, and nothing else until it is closed."""
     served.member.end()
-    tally.check("it is away", anna.page.wait(f"{STATE}.startsWith('Offline')", 10))
+    tally.check("it is away", anna.page.wait(f"{STATE}.startsWith('Offline')"))
     draw(anna, row(anna, 15))
     served.begin("--new-address")
     tally.check("the address is another", served.member.address != served.address)
@@ -121,7 +121,7 @@ def test_gone(tally: Tally, served: Class, anna: Sheet, tom: Sheet, browser: Bro
             break
     faults = len(browser.faults)
     other = browser.open(served.address, is_apart=True)
-    tally.check("who opens the old address is told in words", other.wait("document.querySelector('h1') && document.body.textContent.includes('Ask whoever began the board')", 20),
+    tally.check("who opens the old address is told in words", other.wait("document.querySelector('h1') && document.body.textContent.includes('Ask whoever began the board')"),
                 str(other.value("document.body.textContent")))
     del browser.faults[faults:]
     other.close()

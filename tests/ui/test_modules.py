@@ -53,6 +53,18 @@ def test_scancodes() -> None:
     assert too_long["chosen"] is None
 
 
+def test_measures() -> None:
+    """What is painted has the measures that docs/INK.md tells."""
+    script = f"import({json.dumps((PAGE / 'inkmeasures.js').as_uri())}).then((all) => console.log(JSON.stringify({{ ...all }})))"
+    found = json.loads(subprocess.run([find_node(), "-e", script], stdout=subprocess.PIPE, text=True, check=True).stdout)
+    marker, pressed, corners, head, dashes = (found[name] for name in ("MARKER", "PRESSED", "CORNERS", "HEAD", "DASHES"))
+    told = " ".join((TOP / "docs" / "INK.md").read_text().split())
+    wanted = [f"{marker['wide']} times as wide", f"at {100 * marker['dark']:.0f} in 100", f"`{pressed['least']} + {pressed['more']} p` times as wide", f"corners of {corners['frame']}, and of {corners['note']} units",
+              f"`max({head['least']}, {head['widths']} widths)` long, with {head['side']} radians", f"{dashes['long']} widths long, with gaps of {dashes['gap']}; only on lines below {dashes['most']:,} units",
+              f"in size {found['IN_SHAPES']}, broken at spaces", f"A line is {found['LEADING']} sizes high"]
+    assert [sentence for sentence in wanted if sentence not in told] == []
+
+
 def test_names() -> None:
     """No name of a script has two meanings: what the page has and what the member in a browser has are called differently."""
     page, member = ({path.name for path in (TOP / folder).glob("*.js")} for folder in ("live/ui", "web/member"))

@@ -222,6 +222,11 @@ function testErased() {
   check('after something else it is another one', rows([], three[0], erased(ink(4, 7), 8, 13, 9.2e6, 'text')), [[8, 9.2e6, [4]], [8, 9.1e6, [1]]]);
   check('of two members two', rows([], three[0], erased(ink(4, 7), 9, 12, 9.1e6, 'delete')).length, 2);
   check('what was moved was not erased', rows([ink(5, 8, true)], erased(ink(1, 7), 8, 6, 6e6, 'text'), erased(ink(2, 7), 8, 7, 6e6, 'delete')), []);
+  const moved = [erased(ink(1, 7), 8, 7, 6e6, 'text'), erased(ink(2, 7), 8, 8, 6.01e6, 'delete')], [first, second] = [5, 6].map((seq) => ink(seq, 8, true));
+  check('what was moved and erased at once was', rows([second], ...moved, erased(first, 8, 9, 6.02e6, 'delete')), [[8, 6.02e6, [5]]]);
+  check('all of it', rows([], ...moved, erased(first, 8, 9, 6.02e6, 'delete'), erased(second, 8, 10, 6.03e6, 'delete')), [[8, 6.02e6, [5, 6]]]);
+  check('and another a moment later', rows([first, second], ...moved, erased(ink(3, 7), 8, 9, 6.4e6, 'delete')), [[8, 6.4e6, [3]]]);
+  check('what it drew fewer for is not', rows([first, second], ...moved, erased(ink(3, 7), 8, 9, 6.02e6, 'delete')), []);
   check('nor is what an undo put back', rows([ink(1, 7)], erased(ink(5, 8, true), 8, 9, 9e6, 'restore')), []);
   check('what is left of an erased item was drawn new', rows([ink(5, 8)], erased(ink(1, 7), 8, 6, 6e6, 'text')), [[8, 6e6, [1]]]);
   const far = { ...line(2, 2, 6, 2), source: 8, seq: 5, time: '5' };

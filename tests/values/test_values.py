@@ -1,5 +1,5 @@
 """The tests of tests/value_cases, in a workspace of their own to which tools/vendor copies what they stand on: they are built with checks while they
-run, and not proved. Then each growth of memory, or each start of a thread, of those that are listed is refused.
+run, and not proved. Then each growth of memory, or each start of a thread, of those that are marked is refused.
 
 `pytest tests/values --keep FILE` keeps the program of these tests, and where FILE is there already, takes it and builds nothing.
 """
@@ -31,39 +31,10 @@ pytestmark = [
     pytest.mark.skipif(not shutil.which("rt"), reason="there is no command rt of the toolchain"),
 ]
 
-# tests that accept a refusal anywhere, check that nothing changed, and call again; and those of them that start threads
-GROWTHS = """
-parts::codec::each_growth_of_bytes_may_be_refused
-parts::gaps::each_growth_of_what_is_held_may_be_refused
-parts::display::a_refused_put_leaves_the_layer
-parts::display::refused_views_and_canvases
-parts::recovery::want_of_memory_leaves_all_as_it_was
-boards::refusals::each_growth_may_be_refused
-keepers::refusals::each_growth_of_a_repair_may_be_refused
-keepers::refusals::each_growth_of_a_session_may_be_refused
-keepers::refusals::each_growth_of_an_echo_may_be_refused
-keepers::giving_up::each_growth_beside_giving_up_may_be_refused
-keepers::giving_up::each_growth_of_what_is_asked_for_may_be_refused
-keepers::knowing::each_growth_of_known_pages_may_be_refused
-judging::each_growth_may_be_refused
-history::refusals::each_growth_may_be_refused
-feed::refusals::each_growth_and_start_may_be_refused
-feed::refusals::each_growth_and_start_of_a_relay_may_be_refused
-scripts::refused::arrivals_by_one_worker_may_be_refused
-scripts::refused::arrivals_by_four_workers_may_be_refused
-scripts::refused::what_is_asked_and_answered_may_be_refused
-scripts::refused::what_is_reported_may_be_refused
-scripts::memory::without_memory_nothing_is_checked
-scripts::memory::lines_need_memory_once_their_digits_are_right
-scripts::memory::datagrams_in_words_need_memory_for_lists_and_texts
-filters::memory::without_memory_a_front_of_the_text_is_written
-filters::memory::without_memory_a_line_is_not_judged
-""".split()
-STARTS = """
-feed::refusals::each_growth_and_start_may_be_refused
-feed::refusals::each_growth_and_start_of_a_relay_may_be_refused
-scripts::refused::arrivals_by_four_workers_may_be_refused
-""".split()
+# before a test that accepts a refusal anywhere, checks that nothing changed, and calls again
+MARK = re.compile(r"^// refused: (growth(?:, start)?)\n#\[test\]\nfn (\w+)", re.MULTILINE)
+MARKED = [(kind.upper(), f"{file.relative_to(CASES).as_posix().replace('.rt.in', '').replace('/', '::')}::{name}")
+          for file in sorted(CASES.rglob("*.rt.in")) for kinds, name in MARK.findall(file.read_text()) for kind in kinds.split(", ")]
 
 
 class Built(NamedTuple):
@@ -116,7 +87,7 @@ def test_values(built: Built) -> None:
     if not built.said:
         pytest.skip("the program of the tests was there already, so they were run when it was built")
     told = re.findall(r"^test (\S+) \.\.\. (.*)$", built.said, re.MULTILINE)
-    assert len(told) > 200, built.said[-4000:]
+    assert len(told) > 150, built.said[-4000:]
     assert [name for name, end in told if end != "ok"] == [], built.said[-8000:]
     assert re.search(r"\b0 failed", built.said), built.said[-4000:]
 
@@ -135,7 +106,7 @@ def names(built: Built) -> list[str]:
     return re.findall(r"^(.*): test$", listed, re.MULTILINE)
 
 
-@pytest.mark.parametrize("kind, test", [("GROWTH", it) for it in GROWTHS] + [("START", it) for it in STARTS])
+@pytest.mark.parametrize("kind, test", MARKED)
 def test_refused(built: Built, refusing: Path, names: list[str], kind: str, test: str) -> None:
     """With its first, second, .. growth or start refused, one a run, until no run comes to the one that is to be refused."""
     name = next((it for it in names if it == test or it.endswith(f"::{test}")), None)

@@ -14,17 +14,18 @@ from typing import Any, List, NamedTuple, Optional
 TOP = Path(__file__).resolve().parents[2]
 PARTS = TOP / "tools/installed"
 
-# who hands out Debian's packages: no address stands here until the owner names one
-MAINTAINER = "the owner of the repository <wb@localhost>"
+# who hands out Debian's packages
+MAINTAINER = "Spokecrimson maintainers <maintainers@users.noreply.spokecrimson.example>"
 
 # what a build leaves beside sources
 LEFT = {"__pycache__", "target", "node_modules"}
 
 
 class Built(NamedTuple):
-    """What is packed: the program, the folder of the library if there is one, the page, its modules, and what it was built of."""
+    """What is packed: the program, that for Debian, the folder of the library if there is one, the page, its modules, and what it was built of."""
 
     program: Path
+    shared: Path
     library: Optional[Path]
     page: Path
     modules: Path
@@ -63,9 +64,10 @@ def put_page_of_manual(name: str, place: Path, day: str) -> None:
 
 
 def lay_program(built: Built, tree: Path) -> None:
-    """The program, and wb-live, which runs by what stands beside it."""
-    put(built.program, tree / "bin/wb", 0o755)
-    put_link(tree / "bin/wb-live", "../share/wb/wb-live")
+    """The program; and the commands wb, which tells of what it was built, and wb-live, which runs by what stands beside it."""
+    put(built.program, tree / "lib/wb/wb", 0o755)
+    for name in ("wb", "wb-live"):
+        put_link(tree / "bin" / name, "../share/wb/" + name)
     for name in ("wb-live", "wbhost.py"):
         put(TOP / name, tree / "share/wb" / name, 0o755 if name == "wb-live" else 0o644)
     put(PARTS / "launcher", tree / "share/wb/wb", 0o755)
@@ -124,18 +126,29 @@ def lay(built: Built, tree: Path, day: str, lib: str = "lib") -> None:
 # ---- for Debian
 
 def suit_debian(tree: Path, moment: int) -> None:
-    """What stands elsewhere in Debian: completions of zsh, the licences, packed pages of the manual, and what its checks should pass."""
+    """What stands elsewhere in Debian: completions of zsh, the licences, and packed pages of the manual."""
     share = tree / "share"
     (share / "zsh/site-functions").rename(share / "zsh/vendor-completions")
     for page in sorted((share / "man").rglob("*.1")):
         pack(page)
     for name in ("LICENCE", "THIRD-PARTY"):
         (share / "doc/wb" / name).unlink()
-    tell_debian(tree, "wb", (PARTS / "THIRD-PARTY").read_text() + LESSER, moment)
+    tell_debian(tree, "wb", without_c_library((PARTS / "THIRD-PARTY").read_text()), moment)
 
 
-# what Debian has of the licences
-LESSER = "\nOn Debian the text of the GNU Lesser General Public License is in /usr/share/common-licenses/LGPL-2.1.\n"
+def without_c_library(licences: str) -> str:
+    """The licences of what is in Debian's package, whose program takes the machine's C library: all but the last one."""
+    parts = licences.split("\n" + "-" * 72 + "\n")
+    if "GNU C library" not in parts[-1]:
+        raise ValueError("the last licence is not that of the C library")
+    return ("\n" + "-" * 72 + "\n").join(parts[:-1])
+
+
+def libc_of(built: Built) -> str:
+    """The C library that the program for Debian and the library take, by the latest version of it that one of them names."""
+    files = [built.shared, *([built.library / "lib/libwb.so.0"] if built.library else [])]
+    named = [(int(first), int(second)) for path in files for first, second in re.findall(rb"GLIBC_(\d+)\.(\d+)", path.read_bytes())]
+    return "libc6 (>= %d.%d)" % max(named) if named else "libc6"
 
 CHANGED = """\
 %s (%s) unstable; urgency=medium
@@ -147,13 +160,12 @@ CHANGED = """\
 
 
 def tell_debian(tree: Path, name: str, licences: str, moment: int) -> None:
-    """The licences and what has changed as Debian names them, and what its checks should pass over."""
+    """The licences and what has changed as Debian names them."""
     place = tree / "share/doc" / name
     place.mkdir(parents=True, exist_ok=True)
     (place / "copyright").write_text((PARTS / "LICENCE").read_text() + "\n" + licences)
     (place / "changelog").write_text(CHANGED % (name, version(), MAINTAINER, email.utils.formatdate(moment)))
     pack(place / "changelog")
-    put(PARTS / "lintian" / name, tree / "share/lintian/overrides" / name)
 
 
 def pack(path: Path) -> None:

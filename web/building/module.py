@@ -6,6 +6,7 @@ import shutil
 import subprocess
 from pathlib import Path
 
+from . import version
 from .narrow import narrow
 from .needs import Needs
 from .retarget import retarget
@@ -15,7 +16,7 @@ HERE = Path(__file__).resolve().parent
 
 # what the page calls, as `include/wb.h` declares it, and what it has of the module beside that. A module asks the page for nothing
 CALLS = ["wb_add", "wb_ask", "wb_block", "wb_came", "wb_came_from", "wb_close", "wb_due", "wb_event", "wb_gone", "wb_line", "wb_open", "wb_tick",
-         "wb_wall"]
+         "wb_version", "wb_wall"]
 EXPORTS = ["memory", "page_room", *CALLS]
 
 # how a call is named in a module of tests, which shows it to nothing outside
@@ -72,15 +73,17 @@ def with_calls(text: str) -> str:
     return HIDDEN_CALL.sub(r"define \1", HIDDEN.sub(r"@\1", text))
 
 
-def compile_wasm(needs: Needs, bitcode: Path, room: Path, is_of_tests: bool = False) -> Path:
-    """A module with a 64-bit memory, of an LLVM module for x86-64: of the library, or of tests that make its calls, which is there sooner."""
+def compile_wasm(needs: Needs, bitcode: Path, room: Path, said: str, is_of_tests: bool = False) -> Path:
+    """A module with a 64-bit memory, of an LLVM module for x86-64: of the library, or of tests that make its calls, which is there sooner. It says
+    what it is."""
     text, wasm, clang, flags = room / "library.ll", room / "wb.wasm", needs.clang, [*FLAGS, "-O1" if is_of_tests else "-O3"]
     run([clang, "--target=x86_64-unknown-linux-gnu", "-x", "ir", bitcode, "-S", "-emit-llvm", "-Xclang", "-disable-llvm-passes", "-o", text], room)
     wide = retarget(text.read_text())
     text.write_text(with_calls(wide) if is_of_tests else wide)
     run([clang, *flags, "-x", "ir", "-c", text, "-o", room / "library.o"], room)
     objects = [room / "library.o"]
-    for source in sorted(HERE.glob("*.c")):
+    (room / "version.c").write_text(version.source(said))
+    for source in [*sorted(HERE.glob("*.c")), room / "version.c"]:
         objects.append(room / (source.stem + ".o"))
         run([clang, *flags, *C_FLAGS, "-c", source, "-o", objects[-1]], room)
     # the toolchain's programs are one, which goes by the name that it is called by

@@ -112,6 +112,7 @@ function refusalOf(status) {
  * @property {(host: bigint, question: number, creator: number, number: number, width: number, height: number) => number} wb_ask
  * @property {(host: bigint, kind: bigint, buffer: bigint, room: bigint, size: bigint) => number} wb_event
  * @property {(host: bigint) => bigint} wb_due
+ * @property {() => bigint} wb_version
  * @property {(host: bigint) => void} wb_close */
 
 const written = new TextEncoder();
@@ -416,5 +417,11 @@ export class Program {
   /** A host without a board. */
   async start() {
     return new Host(await WebAssembly.instantiate(this.module));
+  }
+
+  /** What the module says of itself, in lines: its version, the digest of its sources, and whether they are proved. */
+  async version() {
+    const host = await this.start(), bytes = host.seen(), from = Number(host.calls.wb_version());
+    return read.decode(bytes.subarray(from, bytes.indexOf(0, from)));
   }
 }

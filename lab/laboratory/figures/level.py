@@ -99,10 +99,7 @@ def level(scale: Scale) -> Figure:
             timers fire in one round: {'; '.join(parts)}. Constants count only if all of the interval is at most {FEW}. The least by the formula of one
             round at 40 ms, {least['tuning'].replace(' ', ',')}, takes {sure(least, 'requests')} requests and {sure(least, 'repairs')} repairs:
             timers that backed off are due again before a late repair comes.""")
-        more = paragraph(f"""Timers that adapt from {DEFAULT_TUNING} on, after {losses} losses, and {FAR}, for {most} members at 40 ms:""")
-        beside = [of[Key(most, 40, policy, loss)] for loss in (AT_SOURCE, AT_MEMBERS, IN_TURN) for policy in (ADAPTING, FAR)]
-        more += "\n\n" + table_of(HEADS[2:], beside, lambda record: cells_of(record)[2:])
-        return f"{text}\n\n{more}\n\n{table_of(HEADS, [of[key] for key in told], cells_of)}"
+        return f"{text}\n\n{table_of(HEADS, [of[key] for key in told], cells_of)}"
 
     cases = {key.name: key.case(losses if key.group <= most else losses // 4, scale.runs) for key in keys}
     return Figure("level", cases, table, lambda records: {}, section)

@@ -1,7 +1,7 @@
 //! The calls of the library libwb as they are. `include/wb.h` says what each gives, and what its caller owes.
 #![no_std]
 
-use core::ffi::c_void;
+use core::ffi::{c_char, c_void};
 
 /// The place of one host. Its parts are the library's.
 #[repr(C)]
@@ -36,4 +36,5 @@ extern "C" {
     pub fn wb_event(host: *mut Host, kind: *mut u32, buffer: *mut u8, room: usize, size: *mut usize) -> u32;
     pub fn wb_due(host: *mut Host) -> u64;
     pub fn wb_close(host: *mut Host);
+    pub fn wb_version() -> *const c_char;
 }

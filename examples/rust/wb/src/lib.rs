@@ -7,8 +7,15 @@ mod drawing;
 
 pub use drawing::{Drawing, Drawop, NoDrawing, Page};
 
+use std::ffi::CStr;
 use std::fmt;
 use std::ptr::null_mut;
+
+/// What the library says of itself, in lines: its version, the digest of its sources, and whether they are proved.
+pub fn version() -> &'static str {
+    // SAFETY: it is a text that ends and that nobody frees.
+    unsafe { CStr::from_ptr(wb_sys::wb_version()) }.to_str().unwrap_or_default()
+}
 
 /// A call that the program made was refused, and changed nothing: why, in the words of `wb host`. Or the host has ended.
 #[derive(Clone, Debug, PartialEq, Eq)]
@@ -303,6 +310,11 @@ mod tests {
         for words in ["line 0 1 4 1", "text 1 1 \"say \"hi\"\"", "circle 1 2 3", "delete 1"] {
             assert_eq!(words.parse::<Drawing>(), Err(NoDrawing));
         }
+    }
+
+    #[test]
+    fn the_library_is_of_the_version_of_this_crate() {
+        assert!(version().starts_with(concat!("wb ", env!("CARGO_PKG_VERSION"), "\n")), "{}", version());
     }
 
     #[test]

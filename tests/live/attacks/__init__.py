@@ -1,0 +1,1 @@
+"""Attacks on members of the live board."""
