@@ -24,6 +24,11 @@ SAVED = 0.05
 ASIDE = (b"WP", b"WG")
 
 
+def is_framed(data: bytes) -> bool:
+    """Whether bytes begin as a datagram does, and are as many as they say. All others go before the pace, so they delay nothing."""
+    return data[:2] == b"WB" and len(data) >= 8 and data[2] in (1, 2) and 1 <= data[3] <= 5 and int.from_bytes(data[4:8], "big") == len(data) - 8
+
+
 @dataclass(frozen=True)
 class Arrival:
     """A datagram that came in, from where, and what was done to it on purpose."""
@@ -48,6 +53,7 @@ class Inbox:
         self.aside: Callable[[bytes, Origin], None] = lambda data, origin: None  # is given what is for drivers alone
         self.count = 0
         self.dropped = 0
+        self.bad = 0  # what was no datagram
         self.foreign = 0  # what did not open by the session's key
         self.trouble = ""  # what is the matter with the network
         self.back: Callable[[], None] = lambda: None  # is called on the member's thread once the network carries again
@@ -77,6 +83,9 @@ class Inbox:
                 self.aside(arrival.data, arrival.origin)
             return
         with self.changed:
+            if not is_framed(arrival.data):
+                self.bad += 1
+                return
             self.count += 1
             queue = self.arrivals if self.knows(arrival.origin) else self.strange
             heapq.heappush(queue, (time.monotonic() + delay, self.count, arrival))

@@ -254,7 +254,8 @@ class Telling:
         elif page in self.missing:
             self.missing.remove(page)
             self.caught_up = {page: now, **{each: at for each, at in self.caught_up.items() if now - at < CAUGHT_UP}}
-        counts = dict(member.wire.counts, dropped=member.inbox.dropped, foreign=member.inbox.foreign, starts=1 + len(member.board.ends))
+        inbox, counts = member.inbox, dict(member.wire.counts, starts=1 + len(member.board.ends))
+        counts.update({"in": counts["in"] + inbox.bad, "refused": counts["refused"] + inbox.bad, "dropped": inbox.dropped, "foreign": inbox.foreign})
         self.events.tell("health", {
             "page": page_text(page), "phrase": self.phrase(missing), "missing": missing, "warnings": self.warnings(), "counts": counts,
             "taken": member.drawn.total, "cells": member.board.cells,

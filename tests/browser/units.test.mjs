@@ -188,6 +188,18 @@ function testCounters() {
 
 const NOWHERE = { place: '', owner: null };
 
+/** What begins as a datagram does, with a body of so many bytes that begins with one.
+ * @param {number} many @param {number} [first] */
+function framed(many, first = 0) {
+  const bytes = new Uint8Array(8 + many), view = new DataView(bytes.buffer);
+  bytes.set([87, 66, 1, 4]);
+  view.setUint32(4, many);
+  if (many) bytes[8] = first;
+  return bytes;
+}
+
+const BAD = [new Uint8Array(0), new Uint8Array(8), framed(4).subarray(1), framed(4).subarray(0, 11), Object.assign(framed(4), { 2: 3 }), Object.assign(framed(4), { 3: 6 })];
+
 function testInbox() {
   const { now } = performance, clock = { at: now.call(performance) };
   performance.now = () => clock.at;
@@ -201,8 +213,8 @@ function testInbox() {
 /** With a clock that a test moves. */
 function takeAll(clock) {
   const inbox = new Inbox();
-  for (let i = 0; i < 2_100; i += 1) inbox.take(new Uint8Array([i & 255]), NOWHERE);
-  check('the oldest are dropped', [inbox.waiting.length, inbox.dropped, inbox.next().bytes[0]], [2_048, 52, 52]);
+  for (let i = 0; i < 2_100; i += 1) inbox.take(framed(1, i & 255), NOWHERE);
+  check('the oldest are dropped', [inbox.waiting.length, inbox.dropped, inbox.next().bytes[8]], [2_048, 52, 52]);
   const taken = () => {
     let count = 0;
     while (inbox.next()) count += 1;
@@ -212,7 +224,7 @@ function takeAll(clock) {
   check('a hundred come at once, and then two in each millisecond', [Math.abs(first - 100) <= 1, Math.abs(second - 20) <= 1], [true, true]);
   inbox.waiting = [];
   clock.at += 1_000;
-  for (let i = 0; i < 20; i += 1) inbox.take(new Uint8Array(10_000), NOWHERE);
+  for (let i = 0; i < 20; i += 1) inbox.take(framed(9_992), NOWHERE);
   const large = [taken(), clock.at += 10, taken()];
   check('of large ones as many as a megabyte a second has', [large[0], large[2]], [6, 1]);
   [inbox.waiting, inbox.knows] = [[], (origin) => origin === NOWHERE];
@@ -220,18 +232,20 @@ function takeAll(clock) {
   let late = 0, strange = 0;
   for (let tick = 0; tick < 1_000; tick += 1) {
     clock.at += 1;
-    for (let i = 0; i < 5; i += 1) inbox.take(new Uint8Array(8), { ...NOWHERE });
-    inbox.take(new Uint8Array(9), NOWHERE);
+    for (let i = 0; i < 5; i += 1) inbox.take(framed(0), { ...NOWHERE });
+    for (const bytes of BAD) inbox.take(bytes, NOWHERE);
+    inbox.take(framed(1), NOWHERE);
     let ours = 0;
     for (let arrival = inbox.next(); arrival; arrival = inbox.next()) arrival.origin === NOWHERE ? ours += 1 : strange += 1;
     late += Number(ours !== 1);
   }
   check('beside a flood from elsewhere what members send comes at once', [late, Math.abs(strange - 1_000) < 80], [0, true]);
+  check('what is no datagram is counted, and takes nothing of the pace', inbox.bad, 1_000 * BAD.length);
   check('until the rest there is a pause', inbox.pause() > 0 && inbox.pause() < 5, true);
   [inbox.strange, inbox.knows] = [[], () => true];
   inbox.worse = { lose: 1, delay: 0, twice: 0, mix: false };
   inbox.waiting = [];
-  inbox.take(new Uint8Array(1), NOWHERE);
+  inbox.take(framed(0), NOWHERE);
   check('lost on purpose', inbox.waiting[0].isLost, true);
 }
 

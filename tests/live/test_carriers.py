@@ -97,9 +97,13 @@ class Kept:
 # ---- what wraps a carrier
 
 
+# a datagram, as far as a carrier looks
+A = b"WB\1\4\0\0\0\0"
+
+
 def test_worse(facts: Facts) -> None:
     """Any carrier can be made worse, and better again while it runs."""
-    def arrived(words: str, data: bytes = b"a") -> List[Any]:
+    def arrived(words: str, data: bytes = A) -> List[Any]:
         wire, inbox = Wire(), Inbox()
         Worse(wire, read_options(words.split())).begin(inbox)
         wire.inbox.arrive(data, HOME)
@@ -115,7 +119,7 @@ def test_worse(facts: Facts) -> None:
     worse = Worse(wire, words)
     worse.begin(inbox)
     words.lose = 0.0
-    wire.inbox.arrive(b"b", HOME)
+    wire.inbox.arrive(A, HOME)
     facts("the words may change", [each.is_lost for each in inbox.take(1)[1]], [False])
     seen: List[bytes] = []
     inbox.aside = lambda data, origin: seen.append(data)

@@ -33,6 +33,7 @@ from live.views import Drawop, Question, Report, datagram_of, name_in, name_of, 
 from live.waiting import Waiting
 from live.wire import MOST_CHARACTERS, MOST_REMEMBERED, Wire
 from ..facts import Facts
+from .attacks.test_hostile import framed
 from .hosts import AtHost
 from .members import PATIENCE, TOP
 
@@ -342,9 +343,9 @@ def test_ends(facts: Facts) -> None:
 def test_inbox(facts: Facts) -> None:
     inbox = Inbox()
     for number in range(MOST_WAITING + 10):
-        inbox.arrive(b"%d" % number, HOME)
+        inbox.arrive(framed(4, b"%d" % number), HOME)
     first = inbox.take(1)[1][0]
-    facts("the oldest are dropped first", (inbox.dropped, first.data), (10, b"10"))
+    facts("the oldest are dropped first", (inbox.dropped, first.data[8:]), (10, b"10"))
     for trouble in ("", "gone", "gone", "", ""):
         inbox.tell(trouble)
     facts("a network that is back is told once", inbox.take(0)[0], [inbox.back])
@@ -356,7 +357,7 @@ def test_pace(facts: Facts, monkeypatch: pytest.MonkeyPatch) -> None:
     monkeypatch.setattr(inboxes, "time", SimpleNamespace(monotonic=lambda: clock.at))
     inbox = Inbox()
     for _ in range(500):
-        inbox.arrive(b"short", HOME)
+        inbox.arrive(framed(2, b""), HOME)
     taken = []
     for pause in (1_000.0, 0.01, 0.0):
         clock.at += pause
@@ -364,7 +365,7 @@ def test_pace(facts: Facts, monkeypatch: pytest.MonkeyPatch) -> None:
     facts("after a long pause, after a hundredth of a second, and at once", [abs(found - wanted) <= 1 for found, wanted in zip(taken, (PACE // 20, PACE // 100, 0))], [True] * 3)
     inbox = Inbox()
     for _ in range(50):
-        inbox.arrive(b"x" * (PACE_BYTES // 100), HOME)
+        inbox.arrive(framed(2, b"x" * (PACE_BYTES // 100)), HOME)
     clock.at += 1
     facts("long ones by their bytes", len(inbox.take(0)[1]) in (5, 6), True)
 
@@ -379,13 +380,30 @@ def test_pace_of_strangers(facts: Facts, monkeypatch: pytest.MonkeyPatch) -> Non
     for tick in range(1_000):
         clock.at += 0.001
         for _ in range(5):
-            inbox.arrive(b"garbage!", strange)
-        inbox.arrive(b"%d" % tick, HOME)
+            inbox.arrive(framed(4, b"none"), strange)
+        inbox.arrive(framed(4, b"%d" % tick), HOME)
         came = [arrival for arrival in inbox.take(0)[1]]
-        late += b"%d" % tick not in [arrival.data for arrival in came if arrival.origin == HOME]
+        late += framed(4, b"%d" % tick) not in [arrival.data for arrival in came if arrival.origin == HOME]
         taken += sum(arrival.origin == strange for arrival in came)
     facts("nothing of a member is late", late, 0)
     facts.holds("a stranger has half of the pace", PACE // 2 - 50 <= taken <= PACE // 2 + 80, taken)
+
+
+def test_garbage(facts: Facts, monkeypatch: pytest.MonkeyPatch) -> None:
+    """What is no datagram is counted and takes nothing of the pace, so a newcomer's come at once beside it."""
+    clock = SimpleNamespace(at=100.0)
+    monkeypatch.setattr(inboxes, "time", SimpleNamespace(monotonic=lambda: clock.at))
+    inbox, good, newcomer = Inbox(), framed(4, b"good"), Origin("127.0.0.1:9")
+    inbox.knows = lambda origin: False
+    bad = [b"", b"WB", b"garbage!", good[:-1], good + b"x", b"XB" + good[2:], *(good[:at] + bytes([value]) + good[at + 1:] for at in (2, 3) for value in (0, 6))]
+    late = 0
+    for tick in range(1_000):
+        clock.at += 0.001
+        for data in bad:
+            inbox.arrive(data, newcomer)
+        inbox.arrive(good, newcomer)
+        late += [arrival.data for arrival in inbox.take(0)[1]] != [good]
+    facts("what is no datagram delays none, and is counted", (late, inbox.dropped, inbox.bad), (0, 0, 1_000 * len(bad)))
 
 
 def test_gone(facts: Facts) -> None:

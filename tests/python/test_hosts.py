@@ -68,24 +68,25 @@ def test_listening(start: Start) -> None:
 
 
 def test_threads(start: Start) -> None:
-    """Two threads ask one host at once, each a question of its own."""
+    """Two threads ask one host at once, each a question of its own, and then draw, each on a page of its own: no answer is another's."""
     with wb.Host(5, listen=0, by=start()) as host:
         host.add(1, 5, "1/1", LINE)
-        answers: dict[str, set[object]] = {"1/1": set(), "2/2": set()}
+        answers: dict[str, list[object]] = {"1/1": [], "2/2": []}
 
         def ask(page: str) -> None:
             try:
-                for _ in range(1500):
-                    answers[page].add(host.next_number(page))
+                answers[page] += {host.next_number(page) for _ in range(1500)}
+                drawn = [host.add(2, 5, page, LINE).drawop for _ in range(300)]
+                answers[page] += [(str(each.page), each.number) for each in drawn if each]
             except Exception as fault:
-                answers[page].add(fault)
+                answers[page].append(fault)
 
         both = [threading.Thread(target=ask, args=(page,)) for page in answers]
         for each in both:
             each.start()
         for each in both:
             each.join()
-    assert answers == {"1/1": {2}, "2/2": {1}}
+    assert answers == {page: [first, *((page, number) for number in range(first, first + 300))] for page, first in (("1/1", 2), ("2/2", 1))}
 
 
 class Meeting:

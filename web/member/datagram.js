@@ -15,6 +15,13 @@ export { unhex } from './host.js';
 
 const MARK = 0x5742, HEAD = 8, DRAWOP = 1;
 
+/** Whether bytes begin as a datagram does, and are as many as they say. All others go before the pace, so they delay nothing.
+ * @param {Uint8Array} bytes */
+export function isFramed(bytes) {
+  const view = new DataView(bytes.buffer, bytes.byteOffset, bytes.byteLength);
+  return bytes.length >= HEAD && view.getUint16(0) === MARK && [1, 2].includes(bytes[2]) && bytes[3] >= 1 && bytes[3] <= 5 && view.getUint32(4) === bytes.length - HEAD;
+}
+
 /** @type {Datagram} */
 const EMPTY = { kind: '', speaker: 0, page: '', name: '', seq: 0, marks: [], echoes: [], words: '' };
 

@@ -1,4 +1,5 @@
 /** What came in and waits: at a bounded pace, and made worse on purpose where that was asked for. */
+import { isFramed } from './datagram.js';
 
 /** The pace: how many datagrams a second, and how many bytes; what waits; and seconds that may be saved up. Those from where no member has spoken
  * have a half of it. */
@@ -25,6 +26,7 @@ export class Inbox {
      * @type {(origin: Origin) => boolean} */
     this.knows = () => true;
     this.dropped = 0;
+    this.bad = 0; // what was no datagram
     [this.budget, this.forStrange] = [SAVED, SAVED / 2];
     this.takenAt = performance.now();
   }
@@ -33,7 +35,8 @@ export class Inbox {
    * @param {Uint8Array} bytes @param {Origin} origin */
   take(bytes, origin) {
     const { lose, twice } = this.worse, now = performance.now();
-    if (Math.random() < lose) this.put({ bytes, origin, due: now, isLost: true, isSecond: false });
+    if (!isFramed(bytes)) this.bad += 1;
+    else if (Math.random() < lose) this.put({ bytes, origin, due: now, isLost: true, isSecond: false });
     else {
       this.put({ bytes, origin, due: now + this.delay(), isLost: false, isSecond: false });
       if (Math.random() < twice) this.put({ bytes, origin, due: now + this.delay(), isLost: false, isSecond: true });

@@ -199,7 +199,8 @@ export class Telling {
     const { page, drawn, wire, inbox, board, transport } = this.member, missing = this.reported.missing(page, drawn);
     if (missing) this.missing.add(page);
     else if (this.missing.delete(page)) this.caughtUp.set(page, board.now());
-    const counts = { ...wire.counts, dropped: inbox.dropped, foreign: transport.foreign ?? 0, starts: 1 + board.ends.length };
+    const { dropped, bad } = inbox, told = wire.counts;
+    const counts = { ...told, in: told.in + bad, refused: told.refused + bad, dropped, foreign: transport.foreign ?? 0, starts: 1 + board.ends.length };
     const phrase = transport.state || this.phrase(missing);
     this.post('health', { page, phrase, missing, taken: drawn.total, cells: board.cells, warnings: this.warnings(), counts, carried: !transport.state });
   }

@@ -126,12 +126,16 @@ def check_noise(facts: Facts, member: Process, attacker: Attacker) -> None:
     good = draw_datagram(9, 1, 10, b"*")
     noise = [bytes(chance.randrange(256) for _ in range(chance.randrange(1, 300))) for _ in range(500)]
     noise += [mutated(chance, good) for _ in range(500)]
+    wrong = [good[:8 + at] + other + good[8 + at + len(other):] for at, other in ((12, bytes(4)), (24, b"\xff"), (25, b"\xff\xff"), (33, b"\xff"))]
     before, refused = member.rows(PAGE), member.counts()["refused"]
     facts("a thousand bad datagrams come in", attacker.reach(member, noise), True)
     member.wait_for(lambda states: member.counts()["refused"] - refused >= 1000)
     facts("each is refused by name", member.counts()["refused"] - refused, 1000)
+    facts("before the host hears of it", [entry for entry in member.entries if entry["refused"]], [])
+    facts("what is one but for its fields comes in", attacker.reach(member, wrong), True)
+    member.wait_for(lambda states: member.counts()["refused"] - refused >= 1004)
     faults = {entry["refused"] for entry in member.entries if entry["refused"]}
-    facts("with a fault of the host", (faults - {"datagram %d" % number for number in range(1, 10)}, len(faults) > 3), (set(), True))
+    facts("and is refused with a fault of the host", (faults - {"datagram %d" % number for number in range(1, 10)}, len(faults) > 1), (set(), True))
     facts("bad datagrams change nothing that is shown", member.rows(PAGE), before)
 
 
