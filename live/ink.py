@@ -10,8 +10,8 @@ from .views import Drawop, Key
 
 __all__ = ["FIRST_ROW", "SIGNS", "Ink", "Item", "ink_of", "items_of", "read"]
 
-# inks that one item has at most
-MOST_INKS = 256
+# a multiple of this number begins another item, once the one before it has as many inks
+CUT = 128
 
 
 def ink_of(drawop: Drawop) -> Optional[Ink]:
@@ -32,9 +32,9 @@ class Item:
         self.points = list(ink.points)
         self.letters = ink.letters
 
-    def belongs(self, ink: Ink) -> bool:
-        """Whether an ink goes on from those of the item, of whose last it has the next number."""
-        if not ink.goes_on or ink.colour != self.first.colour or self.many == MOST_INKS:
+    def belongs(self, ink: Ink, number: int) -> bool:
+        """Whether an ink of this number goes on from those of the item, of whose last it has the next number."""
+        if not ink.goes_on or ink.colour != self.first.colour or (number % CUT == 0 and self.many >= CUT):
             return False
         if ink.kind == "t":
             return self.first.kind in "trodn"
@@ -56,7 +56,7 @@ def items_of(shown: Iterable[Drawop]) -> List[Item]:
     before = (-1, -1)
     for drawop, ink in sorted(inks, key=lambda each: (each[0].name[0], each[0].name[2])):
         source, _, seq = drawop.name
-        if before == (source, seq - 1) and items[-1].belongs(ink):
+        if before == (source, seq - 1) and items[-1].belongs(ink, seq):
             items[-1].add(ink)
         else:
             items.append(Item(drawop.key, ink))

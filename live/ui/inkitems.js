@@ -17,8 +17,8 @@ import { isJoined, joined } from './inkwriting.js';
 /** A drawing that is shown, its ink if it is one, and its item.
  * @typedef {{ drawing: Drawing, ink: Ink | null, item: Item | null }} Held */
 
-/** Inks that an item has at most. */
-const MOST_INKS = 256;
+/** A multiple of this number begins another item, once the one before it has as many inks. So what is deleted changes the items about it alone. */
+const CUT = 128;
 
 /** Lines of one stroke of cells were drawn within this many microseconds of one another. */
 const TOGETHER = 500_000n;
@@ -70,7 +70,7 @@ function lengthens({ drawings, flag }, line) {
 /** Whether the drawing of the next number belongs to an item.
  * @type {(item: Item, held: Held) => boolean} */
 function belongs(item, { drawing, ink }) {
-  if (item.drawings.length >= MOST_INKS) return false;
+  if (drawing.seq % CUT === 0 && item.drawings.length >= CUT) return false;
   return ink ? isOneWith(item, ink) : drawing.op === 'line' && lengthens(item, drawing);
 }
 

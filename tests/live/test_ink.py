@@ -123,7 +123,8 @@ def test_orders(facts: Facts) -> None:
     lines += [draw % (8, 1, 15, "~n?1!({!/&!6s!5Vone "), draw % (9, 2, 16, "~t?a!({!/&two"), draw % (8, 3, 40, "~t?a!({!/&three"), draw % (8, 4, 41, "~t?a!({!/& four")]
     hidden = [*lines, "draw 9 7/1 3 50 delete 7 2"]
     chance = random.Random(4)
-    facts("an item has at most 256 inks", [item["inks"] for item in told_items(long_board(600))], [256, 256, 88])
+    facts("an item has at most 255 inks, and ends at a number", [item["inks"] for item in told_items(long_board(600))], [255, 128, 128, 89])
+    facts("which numbers begin one", [[item["inks"] for item in told_items(long_board(last)[first:])] for first, last in ((127, 257), (127, 256), (128, 384))], [[128, 2], [128, 1], [255, 1]])
     for held, wanted in ((lines, [(7, 1, 3, ""), (8, 1, 1, "one "), (9, 2, 1, "two"), (8, 3, 2, "three four")]),
                          (hidden, [(7, 1, 1, ""), (8, 1, 1, "one "), (9, 2, 1, "two"), (7, 3, 1, ""), (8, 3, 2, "three four")]),
                          ([*hidden, "draw 9 7/1 4 51 restore 7 2"], [(7, 1, 3, ""), (8, 1, 1, "one "), (9, 2, 1, "two"), (8, 3, 2, "three four")])):

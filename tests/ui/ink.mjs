@@ -103,7 +103,7 @@ function testStrokes() {
         const points = strokeOf(chance, scale), look = { kind, colour: chance(10), width: chance(9), scale }, texts = writeStroke(look, points).map(({ text }) => text);
         const inks = texts.map(readInk), items = itemsOf(drawings(texts)), found = items.flatMap((item) => item.points);
         check(`texts of a ${kind} of scale ${scale} read`, inks.filter((ink) => ink?.kind !== kind || ink.colour !== look.colour || ink.width !== look.width || ink.flag < scale), []);
-        check(`a ${kind} of scale ${scale} is one item`, items.length, Math.ceil(texts.length / 256));
+        check(`a ${kind} of scale ${scale} is one item`, items.length, Math.ceil(texts.length / 255));
         check(`a ${kind} of scale ${scale} is there`, missed(points, found, 2.5 * 2 ** scale, kind === 'v'), []);
       }
     }
@@ -155,7 +155,7 @@ function testFree() {
     const scale = n % 8, points = strokeOf(chance, scale), look = { kind: 'svh'[n % 3], colour: chance(10), width: chance(9), scale, isFree: true }, texts = writeStroke(look, points).map(({ text }) => text);
     check(`texts of a free stroke read, ${n}`, texts.filter((text) => !readInk(text)), []);
     const items = itemsOf(drawings(texts)), ends = points.filter((_, i) => i === 0 || i === points.length - 1 || points[i].up || points[i + 1].up);
-    check(`a free stroke is one item, ${n}`, items.length, Math.ceil(texts.length / 256));
+    check(`a free stroke is one item, ${n}`, items.length, Math.ceil(texts.length / 255));
     check(`its ends are met, ${n}`, missed(ends, items.flatMap((item) => item.points), 2.5 * 2 ** scale, false), []);
   }
 }
@@ -254,7 +254,7 @@ function testLines() {
   check('plain drawings', itemsOf(plain).map(({ kind, colour, width, flag, points, letters }) => [kind, colour, width, flag, points, letters]), [
     ['frame', 9, 5, 0, [{ x: 32, y: 60 }, { x: 288, y: 300 }], ''], ['text', 9, 2, 0, [{ x: 128, y: 360 }], 'ab'], ['line', 9, 5, 0, [{ x: 32, y: 60 }, { x: 288, y: 60 }], '']]);
   const many = Array.from({ length: 600 }, (_, i) => plainLine(1, 1 + i, i, i, i + 1));
-  check('an item has at most 256', itemsOf(many).map(({ drawings: of }) => of.length), [256, 256, 88]);
+  check('an item has at most 255, and ends at a number', itemsOf(many).map(({ drawings: of }) => of.length), [255, 128, 128, 89]);
   check('times of 64 bits', at([plainLine(1, 1, '18446744073709551615', 0, 4), plainLine(1, 2, '18446744073709051615', 4, 9), plainLine(2, 1, '9', 0, 4)]), ['line 1', 'line 1+2']);
 }
 
@@ -308,6 +308,23 @@ function testOrders() {
   check('an item by the name of a drawing', items.itemOf(1, 2) === items.list[1], true);
 }
 
+/** Ink that goes on and on: a delete of the first, and a page that comes in reverse order, make few items anew. */
+function testCuts() {
+  const long = (many, first = 1) => Array.from({ length: many }, (_, i) => ({ op: 'text', x: 0, y: FIRST_ROW, text: '~sHb!->!XBYYYE', source: 7, seq: first + i, time: String(first + i) }));
+  const all = long(60_000), items = new Items(), inks = (list) => list.reduce((sum, { drawings: of }) => sum + of.length, 0);
+  check('which numbers begin an item', [[130, 128], [129, 128], [256, 129], [600, 1]].map(([many, first]) => itemsOf(long(many, first)).map(({ drawings: of }) => of.length)),
+    [[128, 2], [128, 1], [255, 1], [255, 128, 128, 89]]);
+  items.show(all);
+  for (const at of [0, 300, 59_999]) {
+    const { gone, come } = items.change([all[at]], []);
+    check(`a delete of number ${at + 1} changes few`, [inks(gone) < 400, inks(come) < 400], [true, true]);
+  }
+  const late = new Items();
+  let made = 0;
+  for (let end = all.length; end > 0; end -= 100) made += inks(late.change([], all.slice(Math.max(0, end - 100), end)).come);
+  check('in reverse order each is put into an item a few times', [made < 6 * all.length, inks(late.list)], [true, all.length]);
+}
+
 /** Of four inks of one source the second and the third are joined to those before them. */
 function testGroups() {
   const items = new Items(), all = [false, true, true, false].map((is, i) => ({ ...placed(`~l1${i}!({!/&!hV!<*`, i, true, is), source: 1, seq: 5 + i, time: String(9 - i) }));
@@ -325,6 +342,6 @@ if (word === 'read') {
   const { texts, boards } = JSON.parse(readFileSync(0, 'utf8'));
   process.stdout.write(JSON.stringify({ texts: texts.map((text) => toldInk(readInk(text))), boards: boards.map(toldItems) }));
 } else {
-  for (const test of [testVectors, testBack, testSigns, testLetters, testStrokes, testCurves, testHands, testFree, testPieces, testShapes, testText, testSvg, testMoves, testLines, testOrders, testGroups]) test(vectors);
+  for (const test of [testVectors, testBack, testSigns, testLetters, testStrokes, testCurves, testHands, testFree, testPieces, testShapes, testText, testSvg, testMoves, testLines, testOrders, testCuts, testGroups]) test(vectors);
   console.log(JSON.stringify({ checked, wrong }));
 }
