@@ -2,16 +2,17 @@
 from __future__ import annotations
 
 import os
+import secrets
 import time
 from typing import TYPE_CHECKING, Any, Dict, List, Optional, Set, Tuple
 
 from .board import COLUMNS
 from .clock import SECOND
 from .drawn import Drawn
-from .events import Events, Whole
+from .events import Events, Whole, change_text
 from .heard import Other
 from .showing import NO_CHANGE, Change, Showing
-from .views import Name, Page, Report, page_text
+from .views import Drawop, Name, Page, Report, page_text
 
 if TYPE_CHECKING:
     from .member import Member
@@ -87,6 +88,7 @@ class Telling:
         self.page: Optional[Showing] = None  # what the views have
         self.showings: Dict[Page, Showing] = {}
         self.host: Any = None  # that told these
+        self.mark = ""  # what tells it from others
         self.rows: List[str] = []
         self.turn = 0
         self.version = 0
@@ -151,12 +153,27 @@ class Telling:
 
     def showing(self, page: Page) -> Showing:
         """What a page shows, by the host of now."""
-        if self.host is not self.member.board.host:
-            self.host, self.showings = self.member.board.host, {}
+        self.look_at_host()
         self.showings[page] = showing = self.showings.pop(page, None) or Showing(page)
         if len(self.showings) > MOST_SHOWINGS:
             del self.showings[next(iter(self.showings))]
         return showing
+
+    def look_at_host(self) -> None:
+        """What another host told is forgotten."""
+        if self.host is not self.member.board.host:
+            self.host, self.mark, self.showings = self.member.board.host, secrets.token_hex(4), {}
+
+    def news_of(self, page: Page, last: str) -> str:
+        """What a page shows otherwise than when this was asked last, as JSON: which are to be taken off, and which are then put in, each at its place. `since`
+        says when that was; all of it if another host was asked then, or nobody."""
+        self.look_at_host()
+        mark, _, held = last.partition("-")
+        is_more = mark == self.mark and held.isdecimal() and len(held) < 6 and int(held) <= self.member.drawn.total
+        since, sheet = self.member.board.since(page, int(held) if is_more else 0), self.member.drawn.sheet(page)
+        added = [(place, sheet.drawops.get(name) or Drawop(words)) for place, name, words in since.shown]
+        names = [[source, seq] for source, _, seq in since.hidden]
+        return change_text({"since": "%s-%d" % (self.mark, since.held), "whole": not is_more, "names": names, "added": added, "hidden": []})
 
     def whole_of(self, page: Page) -> Whole:
         """What a page shows that need not be in view."""

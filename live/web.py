@@ -177,7 +177,7 @@ class Handler(BaseHTTPRequestHandler):
     def do_GET(self) -> None:
         self.heard()
         paths: Dict[str, Callable[[], None]] = dict.fromkeys(self.server.files, self.send_file)
-        paths.update({"/": self.send_page, "/events": self.send_events, "/board": self.send_board, "/record": self.send_record})
+        paths.update({"/": self.send_page, "/events": self.send_events, "/board": self.send_board, "/news": self.send_news, "/record": self.send_record})
         self.answer(paths)
 
     def do_POST(self) -> None:
@@ -200,7 +200,7 @@ class Handler(BaseHTTPRequestHandler):
             path = "/" + path[:-2]
             self.check_token(key, "open the address that wb-live printed, which has its key")
             if path not in paths:
-                raise Fault(405, "method") if path in ("/", "/events", "/board", "/record", "/draw", "/page") else Fault(404, "no such path")
+                raise Fault(405, "method") if path in ("/", "/events", "/board", "/news", "/record", "/draw", "/page") else Fault(404, "no such path")
             self.file = path
             if self.server.guests and (path == "/" or path not in self.server.files):
                 self.admit(self.server.guests, path == "/")
@@ -290,14 +290,23 @@ class Handler(BaseHTTPRequestHandler):
 
     def send_board(self) -> None:
         """What a page shows that need not be in view."""
-        self.check_token(self.headers.get("X-Wb-Token"))
-        member = self.member
-        try:
-            page = page_of(parse_qs(urlsplit(self.path).query).get("page", [""])[0])
-        except ValueError:
-            raise Fault(400, "page") from None
+        member, page, _ = self.page_asked()
         whole = member.people.call(member.telling.whole_of, page).result(DRAW_PATIENCE)
         self.send_bytes("application/json", whole.text().encode())
+
+    def send_news(self) -> None:
+        """What of a page is new since it was asked for last."""
+        member, page, last = self.page_asked()
+        self.send_bytes("application/json", member.people.call(member.telling.news_of, page, last).result(DRAW_PATIENCE).encode())
+
+    def page_asked(self) -> Tuple[Member, Page, str]:
+        """The page that is asked for, and since when."""
+        self.check_token(self.headers.get("X-Wb-Token"))
+        query = parse_qs(urlsplit(self.path).query)
+        try:
+            return self.member, page_of(query.get("page", [""])[0]), query.get("since", [""])[0]
+        except ValueError:
+            raise Fault(400, "page") from None
 
     def send_record(self) -> None:
         """The record as it is now."""

@@ -135,12 +135,16 @@ export class CellLayer {
     brush.fillText(glyph, view.pixelX(x) + view.wide / 2, view.pixelY(y) + view.high / 2);
   }
 
-  /** @param {Shape} shape @param {string} colour @param {string} [ground] */
+  /** How many cells it took.
+   * @param {Shape} shape @param {string} colour @param {string} [ground] */
   paintShape(shape, colour, ground) {
+    let cells = 0;
     cover(shape, (x, y, glyph) => {
+      cells += 1;
       if (ground) this.fillCell(x, y, ground);
       this.putGlyph(x, y, glyph, colour);
     }, this.parts.view.box());
+    return cells;
   }
 
   /** Quiet dots in the cells about the pointer.

@@ -201,6 +201,11 @@ export class HttpMember {
     return this.get(`board?page=${page}`, (answer) => answer.json());
   }
 
+  /** @param {string} page @param {string} since @returns {Promise<import('./types.js').PageNews | null>} */
+  news(page, since) {
+    return this.get(`news?page=${page}&since=${since}`, (answer) => answer.json());
+  }
+
   record() {
     return this.get('record', (answer) => answer.text());
   }

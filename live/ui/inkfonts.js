@@ -25,22 +25,45 @@ export function widthOf(line, font, size) {
   return ruler.measureText(line).width;
 }
 
-/** The lines of letters, broken at spaces where they would be wider.
+/** Lines of an item that are written at most; the last of more says that there are. */
+const MOST_LINES = 400, MORE = '\u2026';
+
+/** The lines of letters, broken at spaces where they would be wider. Each word is measured once, so what a line takes is a sum.
  * @type {(letters: string, wide: number, font: number, size: number) => string[]} */
-function broken(letters, wide, font, size) {
-  return letters.split('\n').flatMap((row) => {
-    const lines = [''];
+export function broken(letters, wide, font, size, measure = widthOf) {
+  const /** @type {string[]} */ lines = [], /** @type {Map<string, number>} */ widths = new Map(), space = measure(' ', font, size);
+  /** @type {(word: string) => number} */
+  const wideOf = (word) => {
+    const found = word ? widths.get(word) ?? measure(word, font, size) : 0;
+    widths.set(word, found);
+    return found;
+  };
+  for (const row of letters.split('\n')) {
+    let [line, far] = ['', 0];
     for (const word of row.split(/(?<= )/)) {
-      const line = lines[lines.length - 1];
-      if (line && widthOf(line + word.trimEnd(), font, size) > wide) lines.push(word);
-      else lines[lines.length - 1] += word;
+      const bare = word.trimEnd(), its = wideOf(bare);
+      if (line && far + its > wide) {
+        lines.push(line);
+        [line, far] = ['', 0];
+      }
+      [line, far] = [line + word, far + its + (word.length - bare.length) * space];
     }
-    return lines;
-  });
+    lines.push(line);
+    if (lines.length > MOST_LINES) break;
+  }
+  return lines;
 }
 
-/** @type {WeakMap<Item, string[]>} */
+/** @type {(lines: string[]) => string[]} */
+const shortened = (lines) => (lines.length > MOST_LINES ? [...lines.slice(0, MOST_LINES - 1), MORE] : lines);
+
+/** @typedef {{ line: string, x: number, y: number, isFromRight: boolean, align: 'left' | 'right' | 'center' }} Stand */
+
+/** The lines of items, and where they stand.
+ * @type {WeakMap<Item, string[]>} */
 const known = new WeakMap();
+/** @type {WeakMap<Item, Stand[]>} */
+const stands = new WeakMap();
 
 /** The lines in which the letters of an item are written.
  * @type {(item: Item) => string[]} */
@@ -48,7 +71,7 @@ export function linesOf(item) {
   const found = known.get(item), [a, b] = item.points;
   if (found) return found;
   const room = isClosed(item.kind) && Math.abs(a.x - b.x) - (KINDS[item.kind].isNote ? FREE.note : FREE.shape);
-  const lines = room === false ? item.letters.split('\n') : broken(item.letters, room, 0, SIZES[IN_SHAPES]);
+  const lines = shortened(room === false ? item.letters.split('\n') : broken(item.letters, room, 0, SIZES[IN_SHAPES]));
   known.set(item, lines);
   return lines;
 }
@@ -69,8 +92,15 @@ export function standOf(item) {
 }
 
 /** The lines of an item's letters, each with where it stands: at its left, at its right if it is written from there, or in the middle; and its height there.
- * @type {(item: Item) => { line: string, x: number, y: number, isFromRight: boolean, align: 'left' | 'right' | 'center' }[]} */
+ * @type {(item: Item) => Stand[]} */
 export function standsOf(item) {
+  const found = stands.get(item) ?? standsMade(item);
+  stands.set(item, found);
+  return found;
+}
+
+/** @type {(item: Item) => Stand[]} */
+function standsMade(item) {
   const { kind, points: [a, b] } = item, { font, size, x, y, isMiddle } = standOf(item), lines = linesOf(item), isTurned = !isMiddle && lines.some(isFromRight);
   const right = !isTurned ? x : KINDS[kind].isNote ? x + Math.abs(a.x - b.x) - FREE.note : x + Math.max(...lines.map((line) => widthOf(line, font, size)));
   return lines.map((line, i) => ({ line, x: isFromRight(line) ? right : x, y: y + (i + 0.5) * size * LEADING, isFromRight: isFromRight(line), align: isMiddle ? 'center' : isFromRight(line) ? 'right' : 'left' }));

@@ -3,6 +3,7 @@ import { reachOf } from './eraser.js';
 import { itemsOf } from './inkitems.js';
 import { closeBoxOf } from './inkpaint.js';
 import { CELL_WIDE } from './inksigns.js';
+import { WORK, withinWork } from './inkwork.js';
 import { frameAbout, gripsOf } from './resizing.js';
 
 /** @typedef {import('./types.js').Shape} Shape */
@@ -13,8 +14,8 @@ import { frameAbout, gripsOf } from './resizing.js';
 /** Points of the screen that a corner is wide; it makes what is selected larger or smaller. */
 const GRIP = 9;
 
-/** Hidden drawings that are shown where one is to be restored. */
-const MOST_HIDDEN = 1000;
+/** Hidden drawings that are shown where one is to be restored, and what they may cost in frames of the page. */
+const MOST_HIDDEN = 1000, HIDDEN = 10;
 
 export class InkGhosts {
   /** @param {import('./painter.js').Painter} painter */
@@ -44,8 +45,13 @@ export class InkGhosts {
   /** Shapes that are not held yet, as they will be.
    * @param {Shape[]} shapes @param {number} source @param {string} [over] another colour */
   paintShapes(shapes, source, over) {
-    if (!shapes.length) return;
-    this.paintItems(itemsOf(shapes.map((shape, i) => ({ ...shape, source, seq: i + 1, time: String(i + 1) }))), over);
+    if (shapes.length) this.paintItems(itemsOfShapes(shapes, source), over);
+  }
+
+  /** What others have begun, as far as a frame has room.
+   * @param {Item[]} items those first that matter most */
+  paintBegun(items) {
+    this.paintItems(withinWork(items, WORK));
   }
 
   /** @param {Item[]} items @param {string} [over] */
@@ -58,7 +64,7 @@ export class InkGhosts {
   paintHidden(hidden) {
     const { brush, colours } = this.painter;
     brush.globalAlpha = 0.4;
-    this.paintItems(itemsOf(hidden), colours.quiet);
+    this.paintItems(withinWork(itemsOf(hidden), HIDDEN * WORK), colours.quiet);
     brush.globalAlpha = 1;
   }
 
@@ -128,3 +134,7 @@ export class InkGhosts {
     });
   }
 }
+
+/** The items of shapes that have no number yet.
+ * @type {(shapes: Shape[], source: number) => Item[]} */
+export const itemsOfShapes = (shapes, source) => itemsOf(shapes.map((shape, i) => ({ ...shape, source, seq: i + 1, time: String(i + 1) })));

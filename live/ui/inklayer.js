@@ -3,9 +3,9 @@
 import { Grid } from './grid.js';
 import { meets } from './inkfind.js';
 import { Items } from './inkitems.js';
-import { KINDS } from './inkkinds.js';
 import { InkPaint } from './inkpaint.js';
 import { CELL_WIDE } from './inksigns.js';
+import { WORK, workOf } from './inkwork.js';
 
 /** @typedef {import('./types.js').Drawing} Drawing */
 /** @typedef {import('./session.js').Taken} Taken */
@@ -18,12 +18,6 @@ import { CELL_WIDE } from './inksigns.js';
 
 /** Points of a side of a picture; milliseconds of a frame in which items are taken and painted. */
 const TILE = 256, BUDGET = 7;
-
-/** What is painted in a frame at most, in points of items: a canvas puts much of the work off until the frame ends, when no clock is looked at. */
-const WORK = 3000;
-
-/** How many letters count as a point, and how many points one with pressure. */
-const LETTERS = 4, PRESSED = 3;
 
 /** Drawings that go, or come, between two looks at the clock. */
 const TAKEN_AT_ONCE = 100;
@@ -195,7 +189,7 @@ export class InkLayer {
     let at = 0;
     brush.setTransform(scale, 0, 0, scale, -x * TILE * ratio, -y * TILE * ratio);
     for (; at < todo.length && this.work > 0 && performance.now() < end; at += 1) {
-      this.paints.paint(brush, todo[at], { wide, isPicture: true });
+      this.paints.paint(brush, todo[at], { wide, isPicture: true, box: picture.box });
       this.work -= workOf(todo[at]);
     }
     todo.splice(0, at);
@@ -203,10 +197,6 @@ export class InkLayer {
     if (!todo.length || !picture.shown) picture.shown = picture.canvas;
   }
 }
-
-/** What an item costs to paint, about, in points.
- * @type {(item: Item) => number} */
-const workOf = ({ points, kind, letters }) => points.length * (KINDS[kind].isPressed ? PRESSED : 1) + letters.length / LETTERS;
 
 /** @type {(picture: Picture) => boolean} */
 const isWhole = ({ todo }) => todo !== null && todo.length === 0;

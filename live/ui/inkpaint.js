@@ -12,8 +12,8 @@ import { CELL_WIDE, OWN, WIDTHS } from './inksigns.js';
 /** The least and the greatest x and y, in units.
  * @typedef {{ x0: number, y0: number, x1: number, y1: number }} Box */
 /** How an item is painted: so many points of the screen a cell; in another colour than its own; in a picture without a ground, under
- * what is there for a highlighter.
- * @typedef {{ wide: number, over?: string, isPicture?: boolean }} Paint */
+ * what is there for a highlighter; and the box that is seen, if not all is.
+ * @typedef {{ wide: number, over?: string, isPicture?: boolean, box?: Box }} Paint */
 
 /** How a page is coloured: by day or by night, its own colours, and those of members.
  * @typedef {{ isNight: () => boolean, colours: Record<string, string>, tintOf: (source: number) => string }} Shades */
@@ -108,7 +108,7 @@ export class InkPaint {
     else if (isPressed) paintPressed(g, item, CELL_WIDE / how.wide);
     else if (isClosed(kind)) this.paintClosed(g, item, colour);
     else if (!isLetters(item)) strokeAll(g, item);
-    if (item.letters) this.paintLetters(g, item, colour);
+    if (item.letters) this.paintLetters(g, item, colour, how.box);
   }
 
   /** A highlighter lies under all other ink: in a picture under what is there, else so that what is there stays dark, or light.
@@ -136,13 +136,15 @@ export class InkPaint {
     if (!isNote) strokeAll(g, item);
   }
 
-  /** @param {CanvasRenderingContext2D} g @param {Item} item @param {string} colour */
-  paintLetters(g, item, colour) {
+  /** The lines of an item that may be seen.
+   * @param {CanvasRenderingContext2D} g @param {Item} item @param {string} colour @param {Box} [box] */
+  paintLetters(g, item, colour, box) {
     const { colours } = this.shades, { font, size } = standOf(item), { isNote, isLink } = KINDS[item.kind];
     g.font = fontOf(font, size);
     g.fillStyle = isNote ? colours.ink : fillOf(item) === 2 ? colours.paper : colour;
     g.textBaseline = 'middle';
     for (const { line, x, y, isFromRight, align } of standsOf(item)) {
+      if (box && (y + size < box.y0 || y - size > box.y1)) continue;
       [g.direction, g.textAlign] = [isFromRight ? 'rtl' : 'ltr', align];
       g.fillText(line, x, y);
     }

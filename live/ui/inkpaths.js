@@ -1,5 +1,5 @@
 /** The paths of items, in units, as SVG writes them: a canvas makes a path of its own of each. */
-import { bend } from './inkcurves.js';
+import { bend, distance } from './inkcurves.js';
 import { KINDS, isClosed, isLine, isStroke } from './inkkinds.js';
 import { DASHES, HEAD } from './inkmeasures.js';
 import { WIDTHS } from './inksigns.js';
@@ -69,11 +69,19 @@ function head(tip, from, width) {
  * @type {(item: Item) => string} */
 const closed = ({ kind, points: [a, b] }) => KINDS[kind].way?.(Math.min(a.x, b.x), Math.min(a.y, b.y), Math.abs(a.x - b.x), Math.abs(a.y - b.y)) ?? '';
 
-/** Of how many units the dashes and the gaps of a line are, or none.
+/** Of how many units the dashes and the gaps of a line or a shape are, or none.
  * @type {(item: Item) => number[]} */
 export function dashesOf({ kind, flag, width, points: [a, b], drawings: [drawing] }) {
   if (KINDS[kind].isPlain) return drawing.op === 'line' && drawing.glyph === '.' ? [1, 40] : [];
-  const isDashed = Boolean(flag & 4) && KINDS[kind].looks?.includes('dashed') && (isClosed(kind) || Math.hypot(a.x - b.x, a.y - b.y) < DASHES.most);
+  const isDashed = Boolean(flag & 4) && KINDS[kind].looks?.includes('dashed') && Math.hypot(a.x - b.x, a.y - b.y) < DASHES.most;
   return isDashed ? [WIDTHS[width] * DASHES.long, WIDTHS[width] * DASHES.gap] : [];
 }
 
+/** How many dashes an item has, about.
+ * @type {(item: Item) => number} */
+export function manyDashes(item) {
+  const { points, kind } = item, each = dashesOf(item).reduce((sum, part) => sum + part, 0), [a, b] = points;
+  if (!each) return 0;
+  const far = isClosed(kind) ? 2 * (Math.abs(a.x - b.x) + Math.abs(a.y - b.y)) : points.reduce((sum, point, i) => sum + (i ? distance(points[i - 1], point) : 0), 0);
+  return far / each;
+}

@@ -4,6 +4,7 @@ import { SIDE, spell } from './cells.js';
 import { inTexts, readLetters, writeLetters } from './inkletters.js';
 import { MOST_SIGNS, TILDE } from './inksigns.js';
 import { retold, wording } from './language.js';
+import { withMore } from './session.js';
 
 /** @typedef {import('./types.js').Drawing} Drawing */
 /** What was said, by whom and when.
@@ -21,6 +22,9 @@ export const NOTES = '0/0';
 
 /** Letters of a name and of a title. */
 export const MOST_NAME = 24, MOST_TITLE = 36;
+
+/** Milliseconds between two readings of the reserved page. */
+const PAUSE = 1_000;
 
 /** Moves of pages that count: the last ones. */
 const MOST_PLACES = 1_000;
@@ -113,19 +117,38 @@ export class Notes {
   constructor(session) {
     this.session = session;
     this.told = readNotes([]);
-    this.drawn = -1;
+    /** How many drawops the reserved page has; with how many it was read, and until when it was told then. */
+    [this.drawn, this.read, this.since, this.isReading] = [0, 0, '', false];
+    /** What it shows, as far as it was read.
+     * @type {Drawing[]} */
+    this.drawops = [];
     session.on('pages', ({ pages }) => this.look(pages));
     session.on('board', (board) => board.page === NOTES && this.take(board.drawops));
   }
 
-  /** Reads the reserved page where something was drawn on it.
+  /** Reads what is new of the reserved page if something was drawn on it, once a second at most: who draws much there delays nothing else.
    * @param {import('./types.js').Pages['pages']} pages */
   async look(pages) {
-    const drawn = pages.find(({ page }) => page === NOTES)?.drawn ?? 0;
-    if (drawn === this.drawn) return;
-    this.drawn = drawn;
-    const board = drawn ? await this.session.member.read?.(NOTES) : null;
-    if (board) this.take(board.drawops);
+    this.drawn = pages.find(({ page }) => page === NOTES)?.drawn ?? 0;
+    if (this.isReading) return;
+    this.isReading = true;
+    while (this.read !== this.drawn && this.session.member.news) {
+      const drawn = this.drawn, news = await this.session.member.news(NOTES, this.since);
+      if (news) {
+        this.takeNews(news);
+        this.read = drawn;
+      }
+      await new Promise((go) => { setTimeout(go, PAUSE); });
+    }
+    this.isReading = false;
+  }
+
+  /** @param {import('./types.js').PageNews} news */
+  takeNews({ since, whole, names, added }) {
+    const off = new Set(names.map((name) => name.join(' ')));
+    this.since = since;
+    this.drawops = withMore(whole ? [] : this.drawops.filter(({ source, seq }) => !off.has(`${source} ${seq}`)), added);
+    this.take(this.drawops);
   }
 
   /** @param {Drawing[]} drawops */

@@ -2,14 +2,15 @@
 import { spell } from './cells.js';
 import { $ } from './dom.js';
 import { SANS } from './inkfonts.js';
+import { itemsOfShapes } from './inkghosts.js';
 import { initialsOf } from './notes.js';
 import { readBeside } from './points.js';
 
 /** @typedef {import('./types.js').Pointed} Pointed */
 /** @typedef {import('./types.js').Shape} Shape */
 /** @typedef {import('./whiteboard.js').Whiteboard} Whiteboard */
-/** What was heard last of a member, and when it became so.
- * @typedef {{ heardAt: number, pointed: Pointed, beside: import('./points.js').Beside }} Point */
+/** What was heard last of a member, when it became so, and the items of what it has begun.
+ * @typedef {{ heardAt: number, pointed: Pointed, beside: import('./points.js').Beside, items: import('./inkitems.js').Item[] }} Point */
 
 /** Milliseconds between two tellings, at least, and after which one that is not heard points nowhere. */
 const PAUSE = 60, STAYS = 4000;
@@ -17,8 +18,8 @@ const PAUSE = 60, STAYS = 4000;
 /** Lines of what is begun that are sent, and texts of ink: as many as a datagram has room for. */
 const MOST_BEGUN = 12, MOST_INKS = 7;
 
-/** Members whose last points are remembered. */
-const MOST_POINTS = 256;
+/** Members whose last points are remembered, and cells of what they have begun that are painted in a frame. */
+const MOST_POINTS = 256, MOST_CELLS = 4_000;
 
 /** Where the page keeps whether this is sent. */
 const KEPT = 'wb-pointing';
@@ -59,7 +60,9 @@ export class Others {
     const now = performance.now();
     this.heard = others.map((pointed) => {
       const was = this.points.get(pointed.member), isSame = others.length > 1 && JSON.stringify(was?.pointed) === JSON.stringify(pointed);
-      return { heardAt: was && isSame ? was.heardAt : now, pointed, beside: readBeside(pointed.begun) };
+      if (was && isSame) return was;
+      const beside = readBeside(pointed.begun);
+      return { heardAt: now, pointed, beside, items: itemsOfShapes(beside.shapes, pointed.member) };
     });
     this.heard.forEach((point) => this.keep(point));
     setTimeout(() => this.board.painter.soon(), STAYS + 50);
@@ -111,21 +114,35 @@ export class Others {
     session.member.point?.(page, at ? [at.x, at.y] : null, begun);
   }
 
-  /** What others of this page have begun, and a mark with their initials or names where they point. */
+  /** What others of this page have begun, as far as a frame has room, and a mark with their initials or names where they point. */
   paint() {
     const { session, painter } = this.board, now = performance.now();
-    for (const { heardAt, pointed: { member, page, cell }, beside: { shapes } } of this.heard) {
-      if (page !== session.board.page || !cell || now - heardAt > STAYS) continue;
-      if (painter.isInk) this.paintInk(member, shapes, ...cell);
-      else this.paintCells(member, shapes, ...cell);
+    const seen = this.heard.filter(({ heardAt, pointed: { page, cell } }) => page === session.board.page && cell && now - heardAt <= STAYS);
+    if (painter.isInk) painter.ghosts.paintBegun(inTurn(seen.map(({ items }) => items)));
+    else this.paintBegun(seen);
+    for (const { pointed: { member, cell } } of seen) {
+      const [x, y] = /** @type {[number, number]} */ (cell);
+      if (painter.isInk) this.paintInk(member, x, y);
+      else this.paintCells(member, x, y);
     }
   }
 
-  /** @param {number} member @param {Shape[]} shapes @param {number} x @param {number} y */
-  paintInk(member, shapes, x, y) {
+  /** By characters.
+   * @param {Point[]} seen */
+  paintBegun(seen) {
+    const { painter } = this.board, { brush, cells } = painter;
+    let left = MOST_CELLS;
+    brush.globalAlpha = 0.6;
+    for (const { shape, member } of inTurn(seen.map(({ pointed: { member }, beside }) => beside.shapes.map((shape) => ({ shape, member }))))) {
+      if (left > 0) left -= cells.paintShape(shape, painter.tintOf(member));
+    }
+    brush.globalAlpha = 1;
+  }
+
+  /** @param {number} member @param {number} x @param {number} y */
+  paintInk(member, x, y) {
     const { session, painter, view } = this.board, { brush } = painter, name = session.nameOf(member);
     const [px, py] = [view.pixelX(x) + view.wide / 2, view.pixelY(y) + view.high / 2];
-    painter.ghosts.paintShapes(shapes, member);
     brush.fillStyle = painter.tintOf(member);
     brush.strokeStyle = painter.colours.paper;
     brush.lineWidth = 1.5;
@@ -144,12 +161,9 @@ export class Others {
     painter.setFont(brush, view.size);
   }
 
-  /** @param {number} member @param {Shape[]} shapes @param {number} x @param {number} y */
-  paintCells(member, shapes, x, y) {
+  /** @param {number} member @param {number} x @param {number} y */
+  paintCells(member, x, y) {
     const { session, painter, view } = this.board, { brush, cells } = painter, tint = painter.tintOf(member), label = initialsOf(session.called.get(member), member);
-    brush.globalAlpha = 0.6;
-    shapes.forEach((shape) => cells.paintShape(shape, tint));
-    brush.globalAlpha = 1;
     cells.outline({ x, y }, { x, y }, tint);
     brush.font = `700 12px ${painter.font}`;
     const wide = brush.measureText(label).width + 8;
@@ -159,4 +173,11 @@ export class Others {
     brush.fillText(label, view.pixelX(x + 1) + wide / 2, view.pixelY(y + 1) + 8);
     painter.setFont(brush, view.size);
   }
+}
+
+/** Of some lists the last of each, and then all others, the latest first.
+ * @template T @type {(lists: T[][]) => T[]} */
+export function inTurn(lists) {
+  const latest = lists.filter((list) => list.length).reverse();
+  return [...latest.map((list) => list[list.length - 1]), ...latest.flatMap((list) => list.slice(0, -1))];
 }

@@ -31,7 +31,7 @@ function without(list, gone) {
 
 /** A list with drawings more, each at its place there, the first places first.
  * @type {(list: Drawing[], added: [number, Drawing][]) => Drawing[]} */
-function withMore(list, added) {
+export function withMore(list, added) {
   if (added.length <= FEW) {
     added.forEach(([at, drawing]) => list.splice(at, 0, drawing));
     return list;

@@ -33,6 +33,9 @@
  *   answers: number | null, lost: boolean, twice: boolean, refused: string | null, by: number | null, held?: boolean }} Entry */
 /** @typedef {{ entries: Entry[] }} Wire */
 
+/** What a page shows otherwise: which are taken off, and which are then put in, each at its place; until when that is said, and whether it is all.
+ * @typedef {{ since: string, whole: boolean, names: [number, number][], added: [number, Drawing][] }} PageNews */
+
 /** A member that points at a cell, and what it has begun, in words.
  * @typedef {{ member: number, page: string, cell: [number, number] | null, begun: string[] }} Pointed */
 /** Where a replay is, in milliseconds, and how many drawops are missing there.
@@ -57,6 +60,7 @@
  * @property {() => Promise<Reply>} [renumber]   takes a new number, where another member has the same
  * @property {(worse: Worse) => Promise<Reply>} worsen   how the network is to be made worse, where `hello.teach` allows it
  * @property {(page: string) => Promise<Board | null>} [read]   what a page shows, which need not be in view: for names, titles and all pages
+ * @property {(page: string, since: string) => Promise<PageNews | null>} [news]   what of a page is new since that was asked last; of '' all of it
  * @property {() => Promise<string | null>} [record]   the record of the session, as a text
  * @property {(page: string, cell: [number, number] | null, begun: string[]) => Promise<Reply>} [point]   tells others where one points, and
  *   what is begun; they hear it as the state `presence`, which has `others`

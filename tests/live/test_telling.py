@@ -2,6 +2,8 @@
 from __future__ import annotations
 
 import json
+import random
+from types import SimpleNamespace
 from typing import Any, Dict, List, Tuple
 
 from live.board import COLUMNS
@@ -9,9 +11,10 @@ from live.drawn import Drawn
 from live.events import MOST_BYTES, MOST_CHANGES, NAMES, Events, Watcher, Whole
 from live.heard import Other
 from live.showing import Showing
-from live.telling import MOST_MEMBERS, MOST_SHOWINGS, Reported
+from live.telling import MOST_MEMBERS, MOST_SHOWINGS, Reported, Telling
 from live.views import Drawop
 from ..facts import Facts
+from .hosts import AtHost, PAGE as HOSTS_PAGE
 from .test_judging import PAGE, Answering, One, X, drawing
 
 
@@ -49,6 +52,35 @@ def test_members(facts: Facts) -> None:
     told: List[Tuple[int, Any]] = [(each["member"], each["delay"]) for each in one.state("members")["members"]]
     facts("who has answered is told before strangers", (len(told), told[-1]), (MOST_MEMBERS, (9_000, 5.0)))
     facts("by their numbers", [number for number, _ in told], [*range(1, MOST_MEMBERS), 9_000])
+
+
+def test_news(facts: Facts) -> None:
+    """Of a page that is not in view what is new is told, whatever came: put into what was told before it is what the host shows; of another host all."""
+    chance, at = random.Random(5), AtHost()
+    member: Any = SimpleNamespace(board=at.board, drawn=at.drawn)
+    telling, last, shown = Telling(member, Events()), "", []  # type: Telling, str, List[List[int]]
+    lengths = []
+    for step in range(60):
+        for number in range(1 + 4 * step, 4 * step + 1 + chance.randrange(4)):
+            aims = "line 0 0 4 0 *" if chance.randrange(3) else "%s 7 %d" % (chance.choice(("delete", "restore")), chance.randrange(1, 4 * step + 2))
+            if aims.split()[-1] != str(number):
+                at.add("draw 7 7/1 %d %d %s" % (number, chance.randrange(1, 500), aims))
+        text = telling.news_of(HOSTS_PAGE, last)
+        news = json.loads(text)
+        lengths.append(len(text))
+        shown = [] if news["whole"] else [name for name in shown if name not in news["names"]]
+        for place, each in news["added"]:
+            shown.insert(place, [each["source"], each["seq"]])
+        facts("step %d" % step, (shown, news["whole"]), ([[source, seq] for source, _, seq in at.board.view(HOSTS_PAGE)], not last))
+        last = news["since"]
+    facts("if nothing is new, nothing is told", (json.loads(telling.news_of(HOSTS_PAGE, last))["added"], sorted(lengths)[30] < 400), ([], True))
+    facts("what is no word of ours has all of it", [json.loads(telling.news_of(HOSTS_PAGE, word))["whole"] for word in ("", "-", last + "x", "a-1", last.split("-")[0], last + "9", last + "9" * 9_000)], [True] * 7)
+    other = AtHost("draw 7 7/1 1 5 line 0 0 4 0 *")
+    member.board, member.drawn = other.board, other.drawn
+    news = json.loads(telling.news_of(HOSTS_PAGE, last))
+    facts("of another host too", (news["whole"], [it["seq"] for _, it in news["added"]]), (True, [1]))
+    at.end()
+    other.end()
 
 
 def test_missing(facts: Facts) -> None:

@@ -14,13 +14,46 @@ ENDS = 600
 # milliseconds that the page may take of its thread without a pause, on a machine that does nothing else
 MOST_FRAME = 100
 
-# a page of these drawings, as if the member told it: frames as wide as the page; inks at random; and the greatest steps
+# a page of these drawings, as if the member told it: frames as wide as the page; inks at random; the greatest steps; dashes; and letters that break
 FLOODS = {
     "1,500 frames as wide as the page": """Array.from({ length: 1500 }, (_, i) => ({ op: 'frame', x0: i % 7, y0: i % 5, x1: 4095 - i % 3, y1: 4095, glyph: '*' }))""",
     "65,535 inks": """Array.from({ length: 65535 }, (_, i) => ({ op: 'text', x: 64 * (i % 64), y: 4000 + (i >> 6) % 96,
         text: '~s' + '!$.8B'[i % 5] + '1' + three(640 + (i * 7919) % 100000) + three(3000 + (i * 104729) % 60000) + 'TJkis}LmOaOdsOsP'.slice(0, 4 + 2 * (i % 7)) }))""",
     "1,000 inks of the greatest steps": """Array.from({ length: 1000 }, (_, i) => ({ op: 'text', x: 64 * (i % 64), y: 4000 + (i >> 6) % 96,
         text: '~s' + '!$.8B'[i % 5] + '7' + three(2000) + three(13500) + '}!!}'.repeat(13).slice(0, 54) }))""",
+    "500 dashed ellipses as large as the page": """Array.from({ length: 500 }, (_, i) => ({ op: 'text', x: 64 * (i % 63), y: 4000 + Math.floor(i / 63),
+        text: '~o!4' + three(i) + three(i) + three(262143 - i) + three(491519 - i) }))""",
+    "500 ellipses of the most dashes, tinted": """Array.from({ length: 500 }, (_, i) => ({ op: 'text', x: 64 * (i % 63), y: 4000 + Math.floor(i / 63),
+        text: '~o!5' + three(i) + three(i) + three(i + 42000) + three(i + 42000) }))""",
+    "notes of 13,700 letters": """Array.from({ length: 4 * 255 }, (_, i) => ({ op: 'text', x: 64 * (i % 63), y: 4000 + Math.floor(i / 63), text: i % 255
+        ? '~t!a' + three(9000) + three(9000) + ['  ', 'a ', 'ab', '~#!'][i / 255 | 0].repeat(27).slice(0, 54) : '~n!1' + three(9000) + three(9000) + three(29000) + three(19000) }))""",
+}
+
+# Has others point at the page in view, each with so many shapes begun, and gives the milliseconds of the longest painting while the view moves, and
+# between two frames.
+BEGUN = """(async (pointers, shape, isInk) => {
+    const SIGNS = Array.from({ length: 94 }, (_, i) => String.fromCharCode(33 + i)).filter((sign) => sign !== '"' && sign !== '\\\\').join('');
+    const three = (n) => SIGNS[Math.floor(n / 8464)] + SIGNS[Math.floor(n / 92) % 92] + SIGNS[n % 92];
+    wb.sight.setLook(isInk);
+    const page = wb.session.board.page, frame = () => new Promise(requestAnimationFrame), paint = wb.painter.paint.bind(wb.painter);
+    let [spent, apart] = [0, 0];
+    wb.painter.paint = (now) => { const began = performance.now(); paint(now); spent = Math.max(spent, performance.now() - began); };
+    const others = Array.from({ length: pointers }, (_, i) => ({ member: 900 + i, page, cell: [3, 4 + i % 9], begun: Array.from({ length: 25 }, (_, n) => shape(three, n)) }));
+    for (let n = 0, before = await frame(); n < 60; n += 1) {
+        if (n % 10 === 0) wb.session.take('presence', { others });
+        wb.view.goTo(wb.view.left + (n < 30 ? 0.7 : -0.7), wb.view.top + (n < 30 ? 0.9 : -0.9));
+        const now = await frame();
+        [apart, before] = [Math.max(apart, now - before), now];
+    }
+    delete wb.painter.paint;
+    wb.session.take('presence', { others: [] });
+    return { spent, apart };
+})"""
+
+# what is begun, as others' datagrams have it, in both looks
+SHAPES = {
+    "dashed ellipses": ("(three, n) => 'text 0 4000 \"~o!4' + three(n) + three(n) + three(42000 + n) + three(42000 + n) + '\"'", True),
+    "frames of cells": ("(three, n) => `frame ${n} ${n} 4095 4095 #`", False),
 }
 
 # has the drawings shown, and gives the milliseconds of the longest task of the page's thread meanwhile, how long it took, and the same of
@@ -80,6 +113,13 @@ def test_floods(tally: Tally, one: Sheet, other: Sheet) -> None:
             tally.check(f"{name}, {look}: painting ends", all(found["ends"]), str(found))
             if is_measured():
                 tally.check(f"{name}, {look}: no frame over {MOST_FRAME} ms", max(found["longest"]) < MOST_FRAME, told)
+    for name, (shape, is_ink) in SHAPES.items():
+        on_a_new_page(one, other)
+        for pointers in (1, 64):
+            found = one.page.value(f"{BEGUN}({pointers}, {shape}, {json.dumps(is_ink)})")
+            print(f"{pointers} pointers with 25 {name} begun: painted in {found['spent']:.0f} ms at most, frames {found['apart']:.0f} ms apart at most")
+            if is_measured():
+                tally.check(f"{pointers} pointers with {name}: no frame over {MOST_FRAME} ms", max(found.values()) < MOST_FRAME, str(found))
     if not is_measured():
         print("skipped: whether frames are within their time, which is judged where WB_MEASURE is set")
     one.look("cells")

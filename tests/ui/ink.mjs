@@ -5,11 +5,15 @@ import { escaped, textOf } from '../../live/ui/exports.js';
 import { readInk } from '../../live/ui/ink.js';
 import { along, bend, off } from '../../live/ui/inkcurves.js';
 import { fitted } from '../../live/ui/inkfitting.js';
+import { broken } from '../../live/ui/inkfonts.js';
 import { Items, itemsOf } from '../../live/ui/inkitems.js';
 import { readLetters, writeLetters } from '../../live/ui/inkletters.js';
+import { dashesOf } from '../../live/ui/inkpaths.js';
 import { svgOfInk } from '../../live/ui/inksvg.js';
 import { FIRST_ROW, PAGE_HIGH, PAGE_WIDE, numberOf, spelled, valueFor, wayOf } from '../../live/ui/inksigns.js';
 import { isAgain, isJoined, joined, keptInks, movedInk, placed, recoloured, restyled, writeLink, writeShape, writeStroke, writeWords } from '../../live/ui/inkwriting.js';
+import { WORK, withinWork, workOf } from '../../live/ui/inkwork.js';
+import { inTurn } from '../../live/ui/others.js';
 import { awayFrom } from './away.mjs';
 
 const wrong = [];
@@ -222,6 +226,44 @@ function testText() {
   check('a plain text in a row of ink', textOf(board({ ...plain, y: 4000 })), 'cells\n'.padStart(7));
 }
 
+// ---- what it costs
+
+/** The lines of letters, each measured as a whole, where a letter is so wide. */
+const brokenByLines = (letters, wide, each) => letters.split('\n').flatMap((row) => {
+  const lines = [''];
+  for (const word of row.split(/(?<= )/)) {
+    if (lines.at(-1) && (lines.at(-1) + word.trimEnd()).length * each > wide) lines.push(word);
+    else lines.push(lines.pop() + word);
+  }
+  return lines;
+});
+
+function testBroken() {
+  const chance = chanceOf(3);
+  let measured = 0;
+  const measure = (line) => { measured += line.length; return 10 * line.length; };
+  for (let n = 0; n < 300; n += 1) {
+    const letters = Array.from({ length: chance(80) }, () => '  ab\n'[chance(5)]).join(''), wide = 10 * chance(30);
+    check(`lines of ${JSON.stringify(letters)}, ${wide} wide`, broken(letters, wide, 0, 0, measure), brokenByLines(letters, wide, 10));
+  }
+  for (const [what, letters] of [['spaces', ' '.repeat(13_800)], ['short words', 'a b '.repeat(3_450)], ['lines', 'a\n'.repeat(6_900)], ['one word', 'a'.repeat(13_800)]]) {
+    measured = 0;
+    const lines = broken(letters, 4_000, 0, 0, measure);
+    check(`of ${what} each word is measured once`, [measured <= letters.length + 1, lines.length <= 402], [true, true]);
+  }
+}
+
+function testWork() {
+  const shape = (kind, flag, to, width = 0) => itemsOf(drawings(writeShape(kind, { colour: 1, width }, flag, [{ x: 0, y: 0 }, to])))[0], small = { x: 30_000, y: 30_000 };
+  check('dashes of shapes and lines up to a length', ['o', 'r', 'd', 'l'].map((kind) => [small, { x: 60_000, y: 100 }].map((to) => dashesOf(shape(kind, 4, to)).length)), Array(4).fill([2, 0]));
+  check('dashes and insides count', [['o', 4], ['l', 4], ['o', 0], ['l', 0]].map(([kind, flag]) => Math.round(workOf(shape(kind, flag, small)))), [3465, 1221, 17, 2]);
+  const many = Array(500).fill(shape('o', 4, small)), dots = itemsOf(drawings(Array(500).fill('~s]1!#*!#*')));
+  check('what is painted in a frame is bounded', [withinWork(many, WORK).length, withinWork(dots, WORK).length, withinWork(dots, 100).length, withinWork([], WORK).length], [1, 500, 100, 0]);
+  const dotted = itemsOf([plainLine(1, 1, 1, 0, 4_095, '.')])[0];
+  check('dots of plain lines count', Math.round(workOf(dotted)), Math.round(4_095 * 64 / 41) + 2);
+  check('of each pointer the last first', inTurn([[1, 2, 3], [], [4], [5, 6]]), [6, 4, 3, 5, 1, 2]);
+}
+
 // ---- pictures
 
 function testSvg() {
@@ -342,6 +384,6 @@ if (word === 'read') {
   const { texts, boards } = JSON.parse(readFileSync(0, 'utf8'));
   process.stdout.write(JSON.stringify({ texts: texts.map((text) => toldInk(readInk(text))), boards: boards.map(toldItems) }));
 } else {
-  for (const test of [testVectors, testBack, testSigns, testLetters, testStrokes, testCurves, testHands, testFree, testPieces, testShapes, testText, testSvg, testMoves, testLines, testOrders, testCuts, testGroups]) test(vectors);
+  for (const test of [testVectors, testBack, testSigns, testLetters, testStrokes, testCurves, testHands, testFree, testPieces, testShapes, testText, testBroken, testWork, testSvg, testMoves, testLines, testOrders, testCuts, testGroups]) test(vectors);
   console.log(JSON.stringify({ checked, wrong }));
 }

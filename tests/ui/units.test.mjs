@@ -15,7 +15,7 @@ import { momentsOf, rowsOf, shownAt } from '../../live/ui/history.js';
 import { placed } from '../../live/ui/inkwriting.js';
 import { Layout } from '../../live/ui/layout.js';
 import { calledBy, isGone, leavesOf } from '../../live/ui/leaves.js';
-import { initialsOf, readNotes, spoken } from '../../live/ui/notes.js';
+import { NOTES, Notes, initialsOf, readNotes, spoken } from '../../live/ui/notes.js';
 import { readBeside, viewLine } from '../../live/ui/points.js';
 import { gripAt, gripsOf, stretchOf, stretched } from '../../live/ui/resizing.js';
 import { Session } from '../../live/ui/session.js';
@@ -177,6 +177,41 @@ function testNotes() {
   check('where the board goes on, and who said so', told.next, { session: 'class-3', source: 2 });
   check('initials', [initialsOf('Ada Lovelace', 1), initialsOf('grace', 2), initialsOf(undefined, 1234567), initialsOf('!', 9)], ['AL', 'GR', '67', '9']);
   check('initials of all languages', [initialsOf('\u00e9mile \u00d8', 1), initialsOf('\u5c71\u7530 \u82b1\u5b50', 2), initialsOf('\ud83d\ude00\ud801\udc00\ud801\udc01', 3)], ['\u00c9\u00d8', '\u5c71\u82b1', '\ud801\udc00\ud801\udc01']);
+}
+
+/** Of the reserved page what is new is read, once a second at most, also if it changes all the time and an answer is lost. */
+async function testNews() {
+  const { setTimeout } = globalThis, /** @type {any[]} */ waits = [], /** @type {any[]} */ asked = [], /** @type {any[]} */ answers = [];
+  const session = new Session(/** @type {any} */ ({ news: (/** @type {string} */ page, /** @type {string} */ since) => {
+    asked.push([page, since]);
+    return new Promise((answer) => { answers.push(answer); });
+  } })), notes = new Notes(session), at = (/** @type {number} */ seq, /** @type {string} */ letters) => named(text(0, seq, letters), seq);
+  const look = (/** @type {number} */ drawn) => notes.look([{ page: NOTES, drawn, last: '1' }]), settle = async () => { for (let n = 0; n < 9; n += 1) await null; };
+  const answer = async (/** @type {any} */ news) => { answers[answers.length - 1](news); await settle(); };
+  globalThis.setTimeout = /** @type {any} */ ((/** @type {() => void} */ go, /** @type {number} */ pause) => waits.push([go, pause]));
+  const second = async () => { waits[waits.length - 1][0](); await settle(); };
+  try {
+    look(0);
+    for (let drawn = 1; drawn < 50; drawn += 1) look(drawn);
+    check('of many changes one asks', asked, [[NOTES, '']]);
+    await answer({ since: 'a-3', whole: true, names: [], added: [[0, at(1, 'name Ada')], [1, at(2, 'say one')], [2, at(3, 'title 1/1 Roof')]] });
+    check('what was read is told', [[...notes.told.names], [...notes.told.titles], asked.length, waits.map(([, pause]) => pause)], [[[1, 'Ada']], [['1/1', 'Roof']], 1, [1_000]]);
+    await second();
+    check('a second later what is new since is read', asked[1], [NOTES, 'a-3']);
+    await answer(null);
+    await second();
+    check('what got no answer is asked for again', asked[2], [NOTES, 'a-3']);
+    look(60);
+    await answer({ since: 'a-9', whole: false, names: [[1, 1], [1, 3]], added: [[1, at(3, 'title 1/1 Sun')], [2, at(4, 'say two')]] });
+    check('what is taken off and put in', [[...notes.told.names], [...notes.told.titles], notes.told.said.map(({ text: said }) => said)], [[], [['1/1', 'Sun']], ['one', 'two']]);
+    await second();
+    await answer({ since: 'b-1', whole: true, names: [], added: [[0, at(9, 'name Eve')]] });
+    check('of another host all of it', [[...notes.told.names], notes.told.said], [[[1, 'Eve']], []]);
+    await second();
+    check('if nothing is new, nothing is asked', [asked.length, answers.length], [4, 4]);
+  } finally {
+    globalThis.setTimeout = setTimeout;
+  }
 }
 
 /** Letters of all languages, in texts of which each reads by itself. */
@@ -410,5 +445,5 @@ async function testAskedAgain() {
   }
 }
 
-for (const each of [testSession, testBeside, testGrid, testChanges, testNotes, testLetters, testLeaves, testErased, testStretch, testState, testExports,
+for (const each of [testSession, testBeside, testGrid, testChanges, testNotes, testNews, testLetters, testLeaves, testErased, testStretch, testState, testExports,
   testFilm, testCells, testShapes, testTexts, testWords, testColours, testPeoplesColours, testLayout, testFlood, testOrder, testLateAnswers, testAskedAgain]) test(each.name.slice('test'.length), each);

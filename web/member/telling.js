@@ -45,6 +45,8 @@ export class Telling {
     /** That told these.
      * @type {import('./host.js').Host | null} */
     this.host = null;
+    /** What tells it from others. */
+    this.mark = 0;
     /** @type {string[]} */
     this.rows = [];
     /** @type {Map<string, number>} */
@@ -111,13 +113,29 @@ export class Telling {
   /** What a page shows, by the host of now.
    * @param {string} page */
   showing(page) {
-    const { host } = this.member.board;
-    if (this.host !== host) [this.host, this.showings] = [host, new Map()];
+    this.lookAtHost();
     const showing = this.showings.get(page) ?? new Showing(page);
     this.showings.delete(page);
     this.showings.set(page, showing);
     if (this.showings.size > MOST_SHOWINGS) this.showings.delete([...this.showings.keys()][0]);
     return showing;
+  }
+
+  /** What another host told is forgotten. */
+  lookAtHost() {
+    const { host } = this.member.board;
+    if (this.host !== host) [this.host, this.mark, this.showings] = [host, this.mark + 1, new Map()];
+  }
+
+  /** What a page shows otherwise than when this was asked last.
+   * @param {string} page @param {string} last @returns {Promise<import('../../live/ui/types.js').PageNews>} */
+  async newsOf(page, last) {
+    const { board, drawn } = this.member;
+    this.lookAtHost();
+    const { mark } = this, [, told] = last.split('-'), isMore = last === `${mark}-${told}` && Number(told) <= drawn.total;
+    const { held, hidden, shown } = await board.since(page, isMore ? Number(told) : 0), { drawops } = drawn.sheet(page);
+    return { since: `${mark}-${held}`, whole: !isMore, names: hidden.map((name) => /** @type {[number, number]} */ ([Number(name.split(' ')[0]), Number(name.split(' ')[2])])),
+      added: shown.map(([place, drawop]) => [place, fieldsOf(drawops.get(drawop.name) ?? drawop)]) };
   }
 
   /** What a page shows, which need not be in view: its drawings in the order of display, what was deleted, and its rows as the host paints them.

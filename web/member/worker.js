@@ -124,6 +124,7 @@ const CALLS = {
   choose: (page) => member.people.call(() => member.people.choose(page)),
   worsen: (worse) => member.people.call(() => member.people.worsen(worse)),
   read: (page) => member.people.call(() => member.telling.boardOf(page)),
+  news: (page, since) => member.people.call(() => member.telling.newsOf(page, since)),
   record: () => member.people.call(() => member.people.record()),
   point: (page, cell, begun) => member.people.point(page, cell, begun),
   renumber: () => member.people.call(() => member.takeNumber()),

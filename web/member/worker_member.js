@@ -70,6 +70,13 @@ export class WorkerMember {
     return answer.ok ? answer : null;
   }
 
+  /** What of a page is new.
+   * @param {string} page @param {string} since @returns {Promise<import('../../live/ui/types.js').PageNews | null>} */
+  async news(page, since) {
+    const answer = await this.ask('news', page, since);
+    return answer.ok ? answer : null;
+  }
+
   /** The record: every line that changed the host, as a text.
    * @returns {Promise<string | null>} */
   async record() {
