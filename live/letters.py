@@ -5,6 +5,7 @@ import unicodedata
 from typing import Iterable, List
 
 from .ink import Item, items_of
+from .unseen import is_seen
 from .views import Drawop
 
 # what has letters, by the kind of ink
@@ -12,8 +13,8 @@ WHAT = {"t": "letters", "k": "link", "n": "note", "r": "frame", "o": "ellipse", 
 
 
 def printable(text: str) -> str:
-    """A text without what moves the cursor or turns the order of letters: each such letter is a question mark."""
-    return "".join(letter if letter.isprintable() else "?" for letter in text)
+    """A text without what shows nothing, moves the cursor or turns the order of letters: each such letter is a question mark."""
+    return "".join(letter if is_seen(letter) else "?" for letter in text)
 
 
 def width_of(letter: str) -> int:

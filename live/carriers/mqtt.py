@@ -11,6 +11,7 @@ from types import ModuleType
 from typing import Any, NamedTuple, Optional
 
 from ..packages import module_of
+from ..unseen import is_seen
 from .carrier import MOST_BYTES, SEALED, NetworkFault, Origin, Taker
 
 # seconds between two signs of life, from a loss to the next try at most, and that the first connection may take
@@ -42,8 +43,8 @@ REFUSALS = {
 
 
 def is_name(text: str) -> bool:
-    """Whether people may be shown it: no sign in it moves a cursor or turns the writing round, and it is not long."""
-    return 0 < len(text) <= MOST_NAME and text.isprintable()
+    """Whether people may be shown it: each letter shows something, and it is not long."""
+    return 0 < len(text) <= MOST_NAME and is_seen(text)
 
 
 class Login(NamedTuple):

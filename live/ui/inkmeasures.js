@@ -16,8 +16,8 @@ export const TINT = 0.22, NOTE = { day: 0.42, night: 0.3 };
 /** The head of a line: as long at least, as many widths of the line, and how far to each side, in radians. */
 export const HEAD = { least: 70, widths: 4.2, side: 0.48 };
 
-/** Dashes and the gaps between them, in widths; what is longer from end to end, or from corner to corner, has none. */
-export const DASHES = { long: 3.2, gap: 2.6, most: 60_000 };
+/** Dashes and the gaps between them, in widths; a line that is longer has none, nor a shape whose corners are as far apart. */
+export const DASHES = { long: 3.2, gap: 2.6, most: { line: 60_000, shape: 20_000 } };
 
 /** Of letters in shapes the size; how many times as high a line is as they are large; letters of cells. */
 export const IN_SHAPES = 2, LEADING = 1.28, OF_CELLS = 106;

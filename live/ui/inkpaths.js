@@ -73,7 +73,7 @@ const closed = ({ kind, points: [a, b] }) => KINDS[kind].way?.(Math.min(a.x, b.x
  * @type {(item: Item) => number[]} */
 export function dashesOf({ kind, flag, width, points: [a, b], drawings: [drawing] }) {
   if (KINDS[kind].isPlain) return drawing.op === 'line' && drawing.glyph === '.' ? [1, 40] : [];
-  const isDashed = Boolean(flag & 4) && KINDS[kind].looks?.includes('dashed') && Math.hypot(a.x - b.x, a.y - b.y) < DASHES.most;
+  const isDashed = Boolean(flag & 4) && KINDS[kind].looks?.includes('dashed') && Math.hypot(a.x - b.x, a.y - b.y) < DASHES.most[isClosed(kind) ? 'shape' : 'line'];
   return isDashed ? [WIDTHS[width] * DASHES.long, WIDTHS[width] * DASHES.gap] : [];
 }
 

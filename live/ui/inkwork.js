@@ -7,14 +7,14 @@ import { manyDashes } from './inkpaths.js';
 /** What is painted in a frame at most, in points of a stroke. */
 export const WORK = 3000;
 
-/** How many letters count as a point, how many points one with pressure does, and a closed shape: it may fill a picture. */
-const LETTERS = 4, PRESSED = 3, CLOSED = 15;
+/** How many letters count as a point, and dashes; how many points one with pressure does, and a closed shape: it may fill a picture. */
+const LETTERS = 4, DASHES = 4, PRESSED = 3, CLOSED = 15;
 
 /** What an item costs, in points.
  * @type {(item: Item) => number} */
 export function workOf(item) {
   const { points, kind, letters } = item;
-  return points.length * (KINDS[kind].isPressed ? PRESSED : 1) + letters.length / LETTERS + (isClosed(kind) ? CLOSED : 0) + manyDashes(item);
+  return points.length * (KINDS[kind].isPressed ? PRESSED : 1) + letters.length / LETTERS + (isClosed(kind) ? CLOSED : 0) + manyDashes(item) / DASHES;
 }
 
 /** The first items of some, as many as may be painted for so much.

@@ -5,6 +5,7 @@ import { inTexts, readLetters, writeLetters } from './inkletters.js';
 import { MOST_SIGNS, TILDE } from './inksigns.js';
 import { retold, wording } from './language.js';
 import { withMore } from './session.js';
+import { seen, toldApart } from './unseen.js';
 
 /** @typedef {import('./types.js').Drawing} Drawing */
 /** What was said, by whom and when.
@@ -38,12 +39,9 @@ const WORD = /^([^\s~]+)(~?) ?(.*)$/;
 /** Signs that a text of the chat lacks at most if it goes on in the next one, and microseconds until that. */
 const FULL = MOST_SIGNS - 3, SOON = 5_000_000;
 
-/** What is seen by nobody, or would turn the order of the letters about it; two of these join letters. */
-const UNSEEN = /[^\P{C}\u200c\u200d]/gu;
-
 /** Letters on one line, as they are shown.
  * @type {(letters: string) => string} */
-export const shownOf = (letters) => letters.normalize('NFC').replace(/\s+/g, ' ').replace(UNSEEN, '').trim();
+export const shownOf = (letters) => seen(letters.normalize('NFC').replace(/\s+/g, ' '));
 
 /** The first letters of some.
  * @type {(letters: string, many: number) => string} */
@@ -117,7 +115,7 @@ export class Notes {
   constructor(session) {
     this.session = session;
     this.told = readNotes([]);
-    /** How many drawops the reserved page has; with how many it was read, and until when it was told then. */
+    /** How many drawops the reserved page has, how many it had when it was read, and what the member then said to ask with next. */
     [this.drawn, this.read, this.since, this.isReading] = [0, 0, '', false];
     /** What it shows, as far as it was read.
      * @type {Drawing[]} */
@@ -154,7 +152,7 @@ export class Notes {
   /** @param {Drawing[]} drawops */
   take(drawops) {
     this.told = readNotes(drawops);
-    this.session.called = this.told.names;
+    this.session.called = toldApart(this.told.names);
     this.session.titles = this.told.titles;
     this.session.ordered = this.told;
     this.session.emit('notes', this.told);

@@ -31,7 +31,7 @@ export class Welcome {
     if (this.isBegun) return;
     this.isBegun = true;
     setTimeout(() => {
-      if (session.called.get(session.hello.me) || this.board.film.film) return;
+      if (this.board.notes.told.names.get(session.hello.me) || this.board.film.film) return;
       if (kept) this.tell(kept, Number(localStorage.getItem(COLOUR)));
       else if (localStorage.getItem(ASKED) !== 'no' && !document.querySelector('dialog[open]')) this.ask();
     }, PAUSE);
@@ -48,7 +48,7 @@ export class Welcome {
   ask() {
     const { session, notes } = this.board, { me } = session.hello;
     this.colour = notes.told.colours.get(me) ?? this.free();
-    $('welcome-name').value = session.called.get(me) ?? localStorage.getItem(NAME) ?? '';
+    $('welcome-name').value = notes.told.names.get(me) ?? localStorage.getItem(NAME) ?? '';
     this.showColours();
     $('welcome').returnValue = '';
     $('welcome').showModal();
@@ -86,7 +86,7 @@ export class Welcome {
    * @param {string} name @param {number} colour */
   async tell(name, colour) {
     const { notes, session } = this.board, { me } = session.hello;
-    if (session.called.get(me) !== name) await notes.name(name);
+    if (notes.told.names.get(me) !== name) await notes.name(name);
     if (notes.told.colours.get(me) !== colour) await notes.colour(colour);
   }
 }

@@ -82,7 +82,7 @@ function testCarrying() {
   socket.say(0x30, topic('wb/maths/ann'), [4]);
   socket.say(0x30, topic('wb/maths/bob'), [1, 2, 3]);
   socket.say(0x31, topic('wb/maths/bob'), [5]);
-  for (const name of ['', '\x1b[2Jeve', '\u202eeve', 'e\u2028ve', 'e\u00a0ve', 'b'.repeat(129)]) {
+  for (const name of ['', '\x1b[2Jeve', '\u202eeve', 'e\u2028ve', 'e\u00a0ve', 'e\u3164ve', 'e\u2800ve', 'b'.repeat(129)]) {
     const bytes = Buffer.from(`wb/maths/${name}`);
     socket.say(0x30, [bytes.length >> 8, bytes.length & 255], bytes, [6]);
   }

@@ -55,7 +55,7 @@ def test_members(facts: Facts) -> None:
 
 
 def test_news(facts: Facts) -> None:
-    """Of a page that is not in view what is new is told, whatever came: put into what was told before it is what the host shows; of another host all."""
+    """A member tells what is new of a page that is not in view, whatever came: put into what it told before, that is what the host shows."""
     chance, at = random.Random(5), AtHost()
     member: Any = SimpleNamespace(board=at.board, drawn=at.drawn)
     telling, last, shown = Telling(member, Events()), "", []  # type: Telling, str, List[List[int]]

@@ -18,7 +18,7 @@ import pytest
 
 from live.alarms import Alarms
 from live.carriers.carrier import Origin
-from live.carriers.mqtt import GONE
+from live.carriers.mqtt import GONE, is_name
 from live.clock import Clock
 from live.drawn import Drawn, Sheet
 from live import board as boards, connections, inbox as inboxes
@@ -29,6 +29,7 @@ from live.options import read_options
 from live.record import NoRoom, Record, RecordFault, read_played
 from live.state import folder_of, open_record
 from live.telling import MOST_REPORTED, Reported
+from live.unseen import UNSEEN
 from live.views import Drawop, Question, Report, datagram_of, name_in, name_of, page_of
 from live.waiting import Waiting
 from live.wire import MOST_CHARACTERS, MOST_REMEMBERED, Wire
@@ -181,12 +182,21 @@ def test_wire(facts: Facts) -> None:
 
 def test_letters(facts: Facts) -> None:
     """Letters of ink in a terminal."""
+    facts("nor what shows nothing", printable("a\u3164b\u2800c\ufe0f"), "a?b?c?")
     facts("what moves the cursor is not shown", printable("a\x9b1m\u202eb\u00a0\u6f22"), "a?1m?b?\u6f22")
     facts("letters of two cells, and of none", [fitting("\u6f22\u6f22a", 3), fitting("\u6f22\u6f22a", 4), fitting("e\u0301fg", 2)], ["\u6f22", "\u6f22\u6f22", "e\u0301f"])
     line = "draw %d 7/1 %d %d text 0 4000 \"%s\""
     inks = [Drawop(line % each) for each in ((7, 1, 10, "~t%0!!!!(!low"), (8, 1, 20, "~k%0!!!!!!https://a/b"), (8, 2, 30, "~s$1!hV#HJ"), (7, 2, 40, "~t%a!!!!!! more~P!,end"))]
     facts("letters from the top on", letter_rows(inks), ["2 with letters, 1 without", "member 8, link: https://a/b", "member 7, letters: low more", "    end"])
     facts("no ink", letter_rows([]), ["0 with letters, 0 without"])
+
+
+def test_unseen(facts: Facts) -> None:
+    """What shows nothing makes no name at a broker, by the table that the page has too."""
+    table = (TOP / "live/ui/unseen.js").read_text().partition("UNSEEN = [")[2].partition("];")[0]
+    facts("one table", tuple((int(first, 16), int(last, 16)) for first, last in re.findall(r"\[(\w+), (\w+)\]", table)), UNSEEN)
+    names = ["anna", "\u00c4nna b", "\u6f22\u200b", "an\u3164na", "\u2800", "anna\ufe0f", "a\u200dn", "", " ", "a" * 128, "a" * 129]
+    facts("names", [is_name(name) for name in names], [True, True, False, False, False, False, False, False, True, True, False])
 
 
 def test_reported(facts: Facts) -> None:
@@ -390,7 +400,7 @@ def test_pace_of_strangers(facts: Facts, monkeypatch: pytest.MonkeyPatch) -> Non
 
 
 def test_garbage(facts: Facts, monkeypatch: pytest.MonkeyPatch) -> None:
-    """What is no datagram is counted and takes nothing of the pace, so a newcomer's come at once beside it."""
+    """Bytes that are not a datagram take nothing of the pace, so a newcomer's datagrams come at once beside them."""
     clock = SimpleNamespace(at=100.0)
     monkeypatch.setattr(inboxes, "time", SimpleNamespace(monotonic=lambda: clock.at))
     inbox, good, newcomer = Inbox(), framed(4, b"good"), Origin("127.0.0.1:9")

@@ -24,12 +24,12 @@ FLOODS = {
     "500 dashed ellipses as large as the page": """Array.from({ length: 500 }, (_, i) => ({ op: 'text', x: 64 * (i % 63), y: 4000 + Math.floor(i / 63),
         text: '~o!4' + three(i) + three(i) + three(262143 - i) + three(491519 - i) }))""",
     "500 ellipses of the most dashes, tinted": """Array.from({ length: 500 }, (_, i) => ({ op: 'text', x: 64 * (i % 63), y: 4000 + Math.floor(i / 63),
-        text: '~o!5' + three(i) + three(i) + three(i + 42000) + three(i + 42000) }))""",
+        text: '~o!5' + three(i) + three(i) + three(i + 13600) + three(i + 13600) }))""",
     "notes of 13,700 letters": """Array.from({ length: 4 * 255 }, (_, i) => ({ op: 'text', x: 64 * (i % 63), y: 4000 + Math.floor(i / 63), text: i % 255
-        ? '~t!a' + three(9000) + three(9000) + ['  ', 'a ', 'ab', '~#!'][i / 255 | 0].repeat(27).slice(0, 54) : '~n!1' + three(9000) + three(9000) + three(29000) + three(19000) }))""",
+        ? '~t!a' + three(300) + three(300) + ['  ', 'a ', 'ab', '~#!'][i / 255 | 0].repeat(27).slice(0, 54) : '~n!1' + three(300) + three(300) + three(250000) + three(19000) }))""",
 }
 
-# Has others point at the page in view, each with so many shapes begun, and gives the milliseconds of the longest painting while the view moves, and
+# Has others point at the page in view, each with 25 shapes begun, and gives the milliseconds of the longest painting while the view moves, and
 # between two frames.
 BEGUN = """(async (pointers, shape, isInk) => {
     const SIGNS = Array.from({ length: 94 }, (_, i) => String.fromCharCode(33 + i)).filter((sign) => sign !== '"' && sign !== '\\\\').join('');
@@ -52,7 +52,7 @@ BEGUN = """(async (pointers, shape, isInk) => {
 
 # what is begun, as others' datagrams have it, in both looks
 SHAPES = {
-    "dashed ellipses": ("(three, n) => 'text 0 4000 \"~o!4' + three(n) + three(n) + three(42000 + n) + three(42000 + n) + '\"'", True),
+    "dashed ellipses": ("(three, n) => 'text 0 4000 \"~o!4' + three(n) + three(n) + three(14000 + n) + three(14000 + n) + '\"'", True),
     "frames of cells": ("(three, n) => `frame ${n} ${n} 4095 4095 #`", False),
 }
 

@@ -254,13 +254,14 @@ function testBroken() {
 }
 
 function testWork() {
-  const shape = (kind, flag, to, width = 0) => itemsOf(drawings(writeShape(kind, { colour: 1, width }, flag, [{ x: 0, y: 0 }, to])))[0], small = { x: 30_000, y: 30_000 };
-  check('dashes of shapes and lines up to a length', ['o', 'r', 'd', 'l'].map((kind) => [small, { x: 60_000, y: 100 }].map((to) => dashesOf(shape(kind, 4, to)).length)), Array(4).fill([2, 0]));
-  check('dashes and insides count', [['o', 4], ['l', 4], ['o', 0], ['l', 0]].map(([kind, flag]) => Math.round(workOf(shape(kind, flag, small)))), [3465, 1221, 17, 2]);
+  const shape = (kind, flag, to, width = 0) => itemsOf(drawings(writeShape(kind, { colour: 1, width }, flag, [{ x: 0, y: 0 }, to])))[0], small = { x: 14_000, y: 14_000 };
+  check('dashes of shapes and lines up to a length', ['o', 'r', 'd', 'l'].map((kind) => [small, { x: 20_000, y: 100 }, { x: 60_000, y: 100 }].map((to) => dashesOf(shape(kind, 4, to)).length)),
+    [...Array(3).fill([2, 0, 0]), [2, 2, 0]]);
+  check('dashes and insides count', [['o', 4], ['l', 4], ['o', 0], ['l', 0]].map(([kind, flag]) => Math.round(workOf(shape(kind, flag, small)))), [419, 144, 17, 2]);
   const many = Array(500).fill(shape('o', 4, small)), dots = itemsOf(drawings(Array(500).fill('~s]1!#*!#*')));
-  check('what is painted in a frame is bounded', [withinWork(many, WORK).length, withinWork(dots, WORK).length, withinWork(dots, 100).length, withinWork([], WORK).length], [1, 500, 100, 0]);
+  check('what is painted in a frame is bounded', [withinWork(many, WORK).length, withinWork(dots, WORK).length, withinWork(dots, 100).length, withinWork([], WORK).length], [8, 500, 100, 0]);
   const dotted = itemsOf([plainLine(1, 1, 1, 0, 4_095, '.')])[0];
-  check('dots of plain lines count', Math.round(workOf(dotted)), Math.round(4_095 * 64 / 41) + 2);
+  check('dots of plain lines count', Math.round(workOf(dotted)), Math.round(4_095 * 64 / 41 / 4) + 2);
   check('of each pointer the last first', inTurn([[1, 2, 3], [], [4], [5, 6]]), [6, 4, 3, 5, 1, 2]);
 }
 

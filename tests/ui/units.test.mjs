@@ -22,6 +22,7 @@ import { Session } from '../../live/ui/session.js';
 import { arrow, filled, plainOf, simplify, stroke, writing } from '../../live/ui/shapes.js';
 import { linked, nameOfNext, plainly } from '../../live/ui/state.js';
 import { inside } from '../../live/ui/tools.js';
+import { HIDDEN, UNSEEN, lookOf, seen, toldApart } from '../../live/ui/unseen.js';
 import { check } from '../check.mjs';
 
 const line = (x0, y0, x1, y1, glyph = '*') => ({ op: 'line', x0, y0, x1, y1, glyph });
@@ -177,6 +178,23 @@ function testNotes() {
   check('where the board goes on, and who said so', told.next, { session: 'class-3', source: 2 });
   check('initials', [initialsOf('Ada Lovelace', 1), initialsOf('grace', 2), initialsOf(undefined, 1234567), initialsOf('!', 9)], ['AL', 'GR', '67', '9']);
   check('initials of all languages', [initialsOf('\u00e9mile \u00d8', 1), initialsOf('\u5c71\u7530 \u82b1\u5b50', 2), initialsOf('\ud83d\ude00\ud801\udc00\ud801\udc01', 3)], ['\u00c9\u00d8', '\u5c71\u82b1', '\ud801\udc00\ud801\udc01']);
+}
+
+/** Names as people see them. */
+function testSeen() {
+  const nothing = UNSEEN.flatMap(([first, last]) => [first, last]).map((code) => String.fromCodePoint(code)), all = [...Array(0x110000).keys()].map((code) => String.fromCodePoint(code));
+  check('all that Unicode has as ignorable shows nothing', all.filter((letter) => /\p{Default_Ignorable_Code_Point}/u.test(letter) && !HIDDEN.test(letter)), []);
+  check('and letters, marks, digits and signs that show something do', ['a', '~', ' ', '\u0301', '\u05d0', '\u0e34', '\u3042', '\uac00', '\u{1f600}', '\u{1d158}'].filter((letter) => HIDDEN.test(letter)), []);
+  check('what shows nothing goes', [...nothing, '\u200c', '\u200d', '\u202e', '\ufe0e'].filter((letter) => seen(`A${letter} da${letter}`) !== 'A da'), []);
+  check('a name of such letters alone is none', [...nothing, ' \u200d ', '\u3164\u2800', '\ufe0f'].map(seen).filter(Boolean), []);
+  check('what changes the letters about it stays', ['\u0645\u06cc\u200c\u062e\u0648\u0627\u0647\u0645', '\u0915\u094d\u200d\u0937', '\u{1f469}\u200d\u{1f680}', '\u2764\ufe0f', '\u2764\ufe0f\u200d\u{1f525}'].map(seen),
+    ['\u0645\u06cc\u200c\u062e\u0648\u0627\u0647\u0645', '\u0915\u094d\u200d\u0937', '\u{1f469}\u200d\u{1f680}', '\u2764\ufe0f', '\u2764\ufe0f\u200d\u{1f525}']);
+  check('what looks the same', ['Ada', 'A\u200dda', '\u0410d\u0430', 'Ada ', '\uff21da'].map(lookOf), Array(5).fill('Ada'));
+  check('and what does not', ['Ada', 'ADA', 'Adam', 'A da', '\u00c4da'].map(lookOf).filter((look, i, looks) => looks.indexOf(look) !== i), []);
+  check('equal names get numbers', [...toldApart(new Map([[1764, 'Ada'], [2, 'Bob'], [99, 'A\u200dda'], [3764, '\u0410da'], [5, '']]))], [[1764, 'Ada (1764)'], [2, 'Bob'], [99, 'A\u200dda (99)'], [3764, '\u0410da (3764)'], [5, '']]);
+  check('of two as few digits as tell them apart', [...toldApart(new Map([[1764, 'Ada'], [1899, 'Ada']])).values()], ['Ada (64)', 'Ada (99)']);
+  const names = readNotes(spoken('name', '', '\u3164A\u2800d\ufe00a').map((letters, i) => named(text(0, i, letters), i + 1))).names;
+  check('as a member says it', [...names.values()], ['Ada']);
 }
 
 /** Of the reserved page what is new is read, once a second at most, also if it changes all the time and an answer is lost. */
@@ -445,5 +463,5 @@ async function testAskedAgain() {
   }
 }
 
-for (const each of [testSession, testBeside, testGrid, testChanges, testNotes, testNews, testLetters, testLeaves, testErased, testStretch, testState, testExports,
+for (const each of [testSession, testBeside, testGrid, testChanges, testNotes, testSeen, testNews, testLetters, testLeaves, testErased, testStretch, testState, testExports,
   testFilm, testCells, testShapes, testTexts, testWords, testColours, testPeoplesColours, testLayout, testFlood, testOrder, testLateAnswers, testAskedAgain]) test(each.name.slice('test'.length), each);

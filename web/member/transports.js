@@ -1,5 +1,6 @@
 /** What carries datagrams between members: the tabs of one browser, or a topic of an MQTT broker. They may lose, repeat and
  * reorder them, so nothing is sent twice here. */
+import { HIDDEN } from '../../live/ui/unseen.js';
 
 /** @typedef {import('./origins.js').Origin} Origin */
 
@@ -71,8 +72,8 @@ const FIRST_PAUSE = 500, MOST_PAUSE = 30_000;
 /** Bytes that may wait for the network, and the bytes of the greatest packet that is taken. */
 const MOST_WAITING = 1 << 20, MOST_PACKET = 1 << 18;
 
-/** Letters of a name at a broker that is heeded, and those that nobody can be shown: they move a cursor, or turn the writing round. */
-const MOST_NAME = 128, NOT_SHOWN = /[\p{C}\p{Zl}\p{Zp}]|(?! )\p{Zs}/u;
+/** Letters of a name at a broker that is heeded, and spaces that none has. */
+const MOST_NAME = 128, NO_SPACE = /(?! )\p{Z}/u;
 
 /** What people see of a broker that is gone, or that sends what no broker should. */
 const GONE = 'the broker does not answer';
@@ -84,7 +85,7 @@ const encoder = new TextEncoder(), decoder = new TextDecoder(), latin = new Text
 
 /** Whether people may be shown a name.
  * @param {string} name */
-const isName = (name) => name !== '' && [...name].length <= MOST_NAME && !NOT_SHOWN.test(name);
+const isName = (name) => name !== '' && [...name].length <= MOST_NAME && !NO_SPACE.test(name) && !HIDDEN.test(name);
 
 /** A text of MQTT: its length in two bytes, and its bytes.
  * @param {string} words @returns {number[]} */

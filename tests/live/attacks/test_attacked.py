@@ -13,7 +13,7 @@ import tempfile
 import threading
 import time
 from pathlib import Path
-from typing import Dict, List, Optional
+from typing import Dict, List, Optional, Type
 
 from ...facts import Facts
 from .test_hostile import drawn, framed, session, state
@@ -121,8 +121,8 @@ class Drawing:
             thread.join()
 
 
-def check_attacked(facts: Facts, count: int, seconds: float, speed: int) -> None:
-    """So many honest members, attacked for so long."""
+def check_attacked(facts: Facts, count: int, seconds: float, speed: int, by: Type[Attacks] = Attacks) -> None:
+    """N honest members, attacked for some seconds."""
     numbers = list(range(1, count + 1))
     with tempfile.TemporaryDirectory() as folder:
         records = [str(Path(folder) / ("%d.wb" % number)) for number in numbers]
@@ -131,7 +131,7 @@ def check_attacked(facts: Facts, count: int, seconds: float, speed: int) -> None
         try:
             for member in members:
                 member.wait_for(lambda states: states["hello"]["ready"] and sum(other["delay"] is not None for other in states["members"]["members"]) >= count - 1)
-            with Attacks(members, numbers) as attacks:
+            with by(members, numbers) as attacks:
                 drawing = Drawing(time.monotonic() + seconds)
                 drawing.run(members)
                 served = [member.get_page()[0] for member in members]
