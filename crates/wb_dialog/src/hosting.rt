@@ -4,7 +4,8 @@ ghost use Rattle.std.specs.Io.KnownBytes.{Appends};
 ghost use Rattle.wb_recovery.specs.Timing.{are_constants};
 ghost use Rattle.wb_lines.specs.Driving.{Gave};
 ghost use Rattle.wb_lines.specs.Input.{input_lines};
-ghost use Rattle.wb_dialog.specs.Hosting.{transcript, IsEndless};
+ghost use Rattle.wb_dialog.specs.Hosting.{IsEndless};
+ghost use Rattle.wb_dialog.specs.Kinds.{transcript};
 ghost use Rattle.wb_dialog.specs.Doing.{fault_of, Writes};
 
 use crate::dialog::Dialog;

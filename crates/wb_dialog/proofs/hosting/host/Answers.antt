@@ -1,35 +1,34 @@
-use Rattle.std.proofs.Common.{Ok, Err, refl, sym, ap, subst, ◌∙◌}
+use Rattle.std.proofs.Common.{Ok, Err, sym, ap, subst, ◌∙◌}
 use Rattle.std.specs.declared.convert.Infallible.{Infallible}
 use Rattle.wb_lines.specs.declared.fault.DriveFault.{DriveFault}
 use Rattle.wb_lines.specs.Driving.{rules_of, outcome, Meets}
-use Rattle.wb_dialog.specs.Hosting.{step, unopened}
-use Rattle.wb_dialog.specs.Doing.{DialogValue, IsAt}
+use Rattle.wb_dialog.specs.Kinds.{step, unopened}
 use Rattle.wb_dialog.specs.declared.fault.HostFault.TheVariants as host_faults
-use Rattle.wb_dialog.proofs.Transcripts.{hosts_transcript, host_endless, same_fault, fault_reads, fault_writes, fault_ends}
+use Rattle.wb_dialog.proofs.Transcripts.{begins_at, ends_well, hosts_transcript, host_endless, same_fault, fault_reads, fault_writes, fault_ends}
 use Rattle.wb_dialog.proofs.hosting.host.Goals as goal
 
 pub returns-in-Ok-clause-text : goal.returns-in-Ok-clause-text
 returns-in-Ok-clause-text g c =
     let l = c.in-Ok.ensures.lines in
-    let at = subst (λ (d : DialogValue). IsAt d (unopened c.args.tuning)) (sym c.new-dialog.ensures) (record { tuning = refl; host = tt }) in (
+    let at = begins_at c.args.tuning c.new-dialog.result c.new-dialog.ensures in (
       l.0,
       l.1,
       l.2,
       l.3,
       (hosts_transcript c.args.tuning 18446744073709551615 (g.R.Source.has_failed c.drive.new.source) l.0 l.1 (Ok c.in-Ok.field-0) (l.4 (unopened c.args.tuning) at)).0,
-      λ e. cc,
+      ends_well host_faults.Endless,
     )
 
 pub returns-in-Ok-clause-whole : goal.returns-in-Ok-clause-whole
 returns-in-Ok-clause-whole g c =
     let l = c.in-Ok.ensures.lines in
-    let at = subst (λ (d : DialogValue). IsAt d (unopened c.args.tuning)) (sym c.new-dialog.ensures) (record { tuning = refl; host = tt }) in
+    let at = begins_at c.args.tuning c.new-dialog.result c.new-dialog.ensures in
     (hosts_transcript c.args.tuning 18446744073709551615 (g.R.Source.has_failed c.drive.new.source) l.0 l.1 (Ok c.in-Ok.field-0) (l.4 (unopened c.args.tuning) at)).1
 
 pub returns-clause-text : goal.returns-clause-text
 returns-clause-text g c =
     let l = c.in-Err.ensures.lines in
-    let at = subst (λ (d : DialogValue). IsAt d (unopened c.args.tuning)) (sym c.new-dialog.ensures) (record { tuning = refl; host = tt }) in (
+    let at = begins_at c.args.tuning c.new-dialog.result c.new-dialog.ensures in (
       l.0,
       l.1,
       l.2,
