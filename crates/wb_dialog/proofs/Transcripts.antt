@@ -1,5 +1,5 @@
 -- What a driver of lines makes of a dialog is the transcript of its input.
-use Rattle.std.proofs.Common.{◌≡◌, ℕ, ◌+◌, Bool, true, false, List, [], ◌∷◌, ◌++◌, None, Result, Ok, Err, inl, inr, refl, sym, ap, subst, ◌∙◌, rules}
+use Rattle.std.proofs.Common.{◌≡◌, ℕ, ◌+◌, Bool, true, false, List, [], ◌∷◌, ◌++◌, Option, None, Result, Ok, Err, inl, inr, refl, sym, ap, subst, ◌∙◌, rules}
 use Rattle.std.proofs.Common.{◌<◌, ◌≤◌, ◌⊎◌, arith, length, Contains}
 use Rattle.std.proofs.lemmas.Bool.Decides.{nat_tests}
 use Rattle.std.specs.Prelude.{nat_lt, if◌then◌else◌}
@@ -18,7 +18,8 @@ use Rattle.wb_dialog.proofs.Fronts.{begins_all, begins_empty, begins_behind, beg
 use Rattle.wb_dialog.specs.Dialog.{answered_lines}
 use Rattle.wb_dialog.specs.Hosting.{IsEndless}
 use Rattle.wb_dialog.specs.Kinds.{Standing, step, unopened, transcript, block_of, response_of, after, blocks_from}
-use Rattle.wb_dialog.specs.Doing.{DialogValue, IsAt, fault_of, Writes}
+use Rattle.wb_dialog.specs.declared.opened.Host.{Host as HostValue}
+use Rattle.wb_dialog.specs.Doing.{DialogValue, IsAt, IsKindAt, fault_of, Writes}
 
 -- ---- outcomes
 
@@ -102,8 +103,8 @@ Hosts-meets text written cut (writes t end) result tells (inl m) = subst (Hosts 
 Hosts-meets text written cut (writes t end) result tells (inr m) = Hosts-stop text written cut result m.0 (begins_front text t written (tells_front text t cut end tells) m.1)
 
 -- A dialog without a host stands where no board is open.
-pub begins_at : (tuning : Tuning) (d : DialogValue) → d ≡ record { tuning = tuning; host = None } → IsAt d (unopened tuning)
-begins_at tuning d is = subst (λ (e : DialogValue). IsAt e (unopened tuning)) (sym is) (record { tuning = refl; kind = tt })
+pub begins_at : (d : DialogValue) → d.host ≡ None → IsAt d (unopened d.tuning)
+begins_at d is = record { tuning = refl; kind = subst (λ (h : Option HostValue). IsKindAt h (unopened d.tuning).kind) (sym is) tt }
 
 pub ends_well : {X : Type 0} (fault : HostFault) → ◌≡◌ {A = Result (Unit {0}) HostFault} (Ok tt) (Err fault) → X
 ends_well fault e = absurd cc
