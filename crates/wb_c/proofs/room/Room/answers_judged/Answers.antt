@@ -16,5 +16,5 @@ pub returns : goal.returns
 returns c =
     let room : RoomValue = c.args.self.now in
     let after : RoomValue = record { dialog = c.put_member.new.self; block = room.block; events = c.ask-status.new.events } in
-    own_did (Answers c.args.query) room after c.ask-status.result c.take_member.new.self c.in-Some.member c.into_parts.result.0 c.ask-status.new.kept c.into_parts.result.1 c.into_parts.ensures.kept c.into_parts.ensures.judge c.in-Some.ensures.member (c.in-Some.ensures.some c.in-Some.member refl)
+    own_did (Answers c.args.query) room after c.ask-status.result c.take_member.new.self c.in-Some.member c.into_parts-kept.result.0 c.ask-status.new.kept c.into_parts-kept.result.1 c.into_parts-kept.ensures.kept c.into_parts-kept.ensures.judge c.in-Some.ensures.member (c.in-Some.ensures.some c.in-Some.member refl)
     (c.put_member.ensures ∙ ap (λ (m : JudgedValue). with_member m c.take_member.new.self) c.of_parts.ensures) refl c.ask-status.ensures
