@@ -19,7 +19,7 @@ use Rattle.wb_filters.specs.Filtering.{filter_outcome}
 use Rattle.wb_filters.specs.declared.fault.LineFault.{LineFault}
 use Rattle.wb_dialog.specs.Doing.{Writes}
 use Rattle.wb_dialog.specs.Hosting.{IsEndless}
-use Rattle.wb_judged_dialog.specs.Hosting.{transcript}
+use Rattle.wb_dialog.specs.Kinds.{transcript}
 use Rattle.wb_dialog.specs.Refusals.{host_text}
 use Rattle.wb_dialog.specs.declared.fault.HostFault.{HostFault}
 use Rattle.wb_dialog.specs.declared.fault.HostFault.TheVariants as host_faults

@@ -5,9 +5,9 @@ use Rattle.std.specs.declared.convert.Infallible.{Infallible}
 use Rattle.wb_lines.specs.declared.handler.Stop.{Stop}
 use Rattle.wb_lines.specs.Handling.{Met, whole, too_long, Does}
 use Rattle.wb_lines.specs.Taking.{met, is_short}
-use Rattle.wb_judged_dialog.specs.Dialog.{JudgedHosting}
-use Rattle.wb_judged_dialog.specs.Doing.{IsAt, JudgedDialogValue}
-use Rattle.wb_judged_dialog.specs.Hosting.{after as hosting_after, block_of, reply_of, step}
+use Rattle.wb_dialog.specs.Kinds.{Standing}
+use Rattle.wb_dialog.specs.Doing.{IsAt, DialogValue}
+use Rattle.wb_dialog.specs.Kinds.{after as standing_after, block_of, response_of, step}
 use Rattle.wb_c.specs.declared.room.Room.{Room}
 use Rattle.wb_c.specs.Blocks.{Took, ended}
 use Rattle.wb_c.specs.Calls.{LineAt, Taken}
@@ -25,16 +25,16 @@ pub met_long : (line : List ℕ) → 65536 < length line → met (ended line) �
 met_long line high = rw (long line high) refl
 
 -- what a dialog printed behind nothing is the block
-pub took : {U : Type 0} (old new : JudgedDialogValue) (line before block printed : List ℕ) (m : Met) (u : U) → met (ended line) ≡ m → before ≡ [] → block ≡ before ++ printed
-    → ((s : JudgedHosting) → IsAt old s → Does (IsAt new) printed (Ok u) (step s 0 m)) → Took old new line block
+pub took : {U : Type 0} (old new : DialogValue) (line before block printed : List ℕ) (m : Met) (u : U) → met (ended line) ≡ m → before ≡ [] → block ≡ before ++ printed
+    → ((s : Standing) → IsAt old s → Does (IsAt new) printed (Ok u) (step s 0 m)) → Took old new line block
 unfolding step
 took old new line before block printed m u is none all did s at =
     let d = did s at in
-    subst (λ (n : Met). IsAt new (hosting_after s (reply_of s n)) × (block ≡ block_of (reply_of s n))) (sym is)
+    subst (λ (n : Met). IsAt new (standing_after s (response_of s n)) × (block ≡ block_of (response_of s n))) (sym is)
     (d.1, all ∙ ap (λ (x : List ℕ). x ++ printed) none ∙ d.0)
 
-pub took_by : {U : Type 0} (r : Result U (Stop Infallible)) (old new : JudgedDialogValue) (line before block printed : List ℕ) (m : Met) → met (ended line) ≡ m → before ≡ [] → block ≡ before ++ printed
-    → ((s : JudgedHosting) → IsAt old s → Does (IsAt new) printed r (step s 0 m)) → OnOk r (Took old new line block)
+pub took_by : {U : Type 0} (r : Result U (Stop Infallible)) (old new : DialogValue) (line before block printed : List ℕ) (m : Met) → met (ended line) ≡ m → before ≡ [] → block ≡ before ++ printed
+    → ((s : Standing) → IsAt old s → Does (IsAt new) printed r (step s 0 m)) → OnOk r (Took old new line block)
 took_by (Ok u) old new line before block printed m is none all did = took old new line before block printed m u is none all did
 took_by (Err e) old new line before block printed m is none all did = tt
 

@@ -5,9 +5,9 @@ use Rattle.std.specs.List.{concat}
 use Rattle.wb_lines.specs.Input.{InputLine}
 use Rattle.wb_lines.specs.Taking.{is_short, is_taken}
 use Rattle.wb_dialog.specs.Dialog.{answered_lines}
-use Rattle.wb_judged_dialog.specs.Dialog.{JudgedHosting}
-use Rattle.wb_judged_dialog.specs.Doing.{IsAt, JudgedDialogValue}
-use Rattle.wb_judged_dialog.specs.Hosting.{after, block_of, blocks_from, unopened}
+use Rattle.wb_dialog.specs.Kinds.{Standing}
+use Rattle.wb_dialog.specs.Doing.{IsAt, DialogValue}
+use Rattle.wb_dialog.specs.Kinds.{after, block_of, blocks_from, unopened}
 use Rattle.wb_c.specs.Blocks.{ended, fresh, reply_to_line, usual}
 use Rattle.wb_c.specs.Laws.{BlocksAreATranscript, TookEach}
 
@@ -25,9 +25,9 @@ all_answered cut (line ∷ lines) =
     ∙ ap (λ (rest : List InputLine). ended line ∷ rest) (all_answered cut lines)
 
 at_first : IsAt fresh (unopened usual)
-at_first = record { tuning = refl; tuned = refl; host = tt; board = refl; judge = refl; closed = λ none. refl; own = λ j none. absurd cc }
+at_first = record { tuning = refl; kind = tt }
 
-blocks_of_lines : (old : JudgedDialogValue) (lines blocks : List (List ℕ)) (new : JudgedDialogValue) (s : JudgedHosting) → IsAt old s → TookEach old lines blocks new → blocks ≡ blocks_from s (map ended lines)
+blocks_of_lines : (old : DialogValue) (lines blocks : List (List ℕ)) (new : DialogValue) (s : Standing) → IsAt old s → TookEach old lines blocks new → blocks ≡ blocks_from s (map ended lines)
 blocks_of_lines old [] [] new s at took = refl
 blocks_of_lines old [] (block ∷ blocks) new s at took = absurd took
 blocks_of_lines old (line ∷ lines) [] new s at took = absurd took

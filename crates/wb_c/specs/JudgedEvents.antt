@@ -11,7 +11,7 @@ use Rattle.wb_judging.specs.declared.event.Event.{Event}
 use Rattle.wb_judging.specs.declared.event.Event.TheVariants.{Became, Dropped, Drew, Fetch, NoDatagram, Record, Send, Warn}
 use Rattle.wb_judging.specs.declared.event.Fate.{Fate}
 use Rattle.wb_judging.specs.declared.event.Fate.TheVariants as fates
-use Rattle.wb_judged_dialog.specs.Texts.{record_text}
+use Rattle.wb_dialog.specs.Texts.{record_text}
 
 -- ---- kinds
 

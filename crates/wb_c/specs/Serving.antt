@@ -9,10 +9,8 @@ use Rattle.wb_codec.specs.declared.fault.ReadFault.{ReadFault}
 use Rattle.wb_member.specs.declared.questions.Query.{Query}
 use Rattle.wb_keeping.specs.Laws.{Added, Came, Ticked}
 use Rattle.wb_keeping.specs.Performing.{KeptValue}
-use Rattle.wb_dialog.specs.Doing.{kept_in}
-use Rattle.wb_dialog.specs.Hosting.{due_at}
-use Rattle.wb_judged_dialog.specs.Dialog.{JudgedHosting}
-use Rattle.wb_judged_dialog.specs.Doing.{IsAt, member_in, with_kept, with_member}
+use Rattle.wb_dialog.specs.Doing.{IsAt, judged_in, kept_in, with_kept, with_member}
+use Rattle.wb_dialog.specs.Kinds.{Standing, due_of}
 use Rattle.wb_judge.specs.declared.limits.TheConstants.{TIME_LIMIT}
 use Rattle.wb_judge.specs.declared.origin.Origin.{Origin}
 use Rattle.wb_judging.specs.declared.call.Call.{Call}
@@ -35,14 +33,25 @@ use Rattle.wb_c.specs.declared.room.Room.{Room}
 abbrev pub Refuses : ℕ → Room → Room → ℕ → Type 0
 Refuses why old new status = (status ≡ why) × (new ≡ old)
 
--- what a member does, at a host that is self-managing
+-- what a member does, at a host that is self-managing and not judged
 abbrev pub AtKept : (KeptValue → KeptValue → List Event → List Event → ℕ → Type 0) → Option KeptValue → Room → Room → ℕ → Type 0
 AtKept does None old new status = Refuses not_kept old new status
 AtKept does (Some kept) old new status =
     (after : KeptValue) × (new.dialog ≡ with_kept after old.dialog) × (new.block ≡ old.block) × does kept after old.events.items new.events.items status
 
 abbrev pub AtMember : (KeptValue → KeptValue → List Event → List Event → ℕ → Type 0) → Room → Room → ℕ → Type 0
-AtMember does old new status = AtKept does (kept_in old.dialog.dialog.host) old new status
+AtMember does old new status = AtKept does (kept_in old.dialog.host) old new status
+
+-- what the self-managing member of a judged host does
+abbrev pub AtOwn : (KeptValue → KeptValue → List Event → List Event → ℕ → Type 0) → Option JudgedValue → Room → Room → ℕ → Type 0
+AtOwn does None old new status = Refuses not_kept old new status
+AtOwn does (Some m) old new status =
+    (after : KeptValue) × (new.dialog ≡ with_member (record { kept = after; judge = m.judge }) old.dialog) × (new.block ≡ old.block) × does m.kept after old.events.items new.events.items status
+
+-- what the self-managing member of any host does
+abbrev pub AtAny : Bool → (KeptValue → KeptValue → List Event → List Event → ℕ → Type 0) → Room → Room → ℕ → Type 0
+AtAny true does old new status = AtOwn does (judged_in old.dialog.host) old new status
+AtAny false does old new status = AtMember does old new status
 
 -- A judged host takes no datagram without its origin.
 abbrev pub Unjudged : Bool → (Room → Room → ℕ → Type 0) → Room → Room → ℕ → Type 0
@@ -56,7 +65,7 @@ AtJudgedBy call (Some m) old new status =
     (after : JudgedValue) × (new.dialog ≡ with_member after old.dialog) × (new.block ≡ old.block) × Judges call m after old.events.items new.events.items status
 
 abbrev pub AtJudged : Call → Room → Room → ℕ → Type 0
-AtJudged call old new status = AtJudgedBy call (member_in old.dialog) old new status
+AtJudged call old new status = AtJudgedBy call (judged_in old.dialog.host) old new status
 
 -- A judged host has its judged member do it, and another its self-managing one.
 abbrev pub AtEither : Bool → Call → (KeptValue → KeptValue → List Event → List Event → ℕ → Type 0) → Room → Room → ℕ → Type 0
@@ -75,10 +84,10 @@ read_by (Err fault) = Err (read_status fault)
 
 -- A judged host has the time of day, and the drawop's does not matter there.
 abbrev pub Draws : ℕ → DrawopValue → Room → Room → ℕ → Type 0
-Draws now d old new status = AtEither (is_some old.dialog.judge) (UserDrew now d.name.page d.op) (Performs (Added now d.name.page d.time d.op)) old new status
+Draws now d old new status = AtEither (is_some (judged_in old.dialog.host)) (UserDrew now d.name.page d.op) (Performs (Added now d.name.page d.time d.op)) old new status
 
 abbrev pub Takes : ℕ → Result Datagram ℕ → Room → Room → ℕ → Type 0
-Takes now (Ok v) old new status = Unjudged (is_some old.dialog.judge) (AtMember (Performs (Came now v))) old new status
+Takes now (Ok v) old new status = Unjudged (is_some (judged_in old.dialog.host)) (AtMember (Performs (Came now v))) old new status
 Takes now (Err why) old new status = Refuses why old new status
 
 -- What a drawop does is drawn; any other datagram is none.
@@ -88,7 +97,7 @@ Adds now (Ok v) old new status = Refuses no_drawop old new status
 Adds now (Err why) old new status = Refuses why old new status
 
 abbrev pub Ticks : ℕ → Room → Room → ℕ → Type 0
-Ticks now old new status = AtEither (is_some old.dialog.judge) (Passed now Nothing) (Performs (Ticked now)) old new status
+Ticks now old new status = AtEither (is_some (judged_in old.dialog.host)) (Passed now Nothing) (Performs (Ticked now)) old new status
 
 abbrev pub CameBy : ℕ → Result Datagram ReadFault → Room → Room → ℕ → Type 0
 CameBy now read old new status = InTime (nat_lt now MOMENT_LIMIT) (Takes now (read_by read)) old new status
@@ -124,7 +133,7 @@ abbrev pub GoneBy : ℕ → Origin → Room → Room → ℕ → Type 0
 GoneBy now o old new status = InTime (nat_lt now MOMENT_LIMIT) (AtJudged (Passed now (Gone o))) old new status
 
 abbrev pub AsksBy : Option Query → Room → Room → ℕ → Type 0
-AsksBy (Some query) old new status = AtMember (Answers query) old new status
+AsksBy (Some query) old new status = AtAny (is_some (judged_in old.dialog.host)) (Answers query) old new status
 AsksBy None old new status = Refuses no_question old new status
 
 abbrev pub Asks : ℕ → PageId → ℕ → ℕ → Room → Room → ℕ → Type 0
@@ -165,4 +174,4 @@ never = 2 ^ 64 - 1
 -- the next moment at which a tick is due, or never
 abbrev pub IsDue : Option Room → ℕ → Type 0
 IsDue None due = due ≡ never
-IsDue (Some room) due = (s : JudgedHosting) → IsAt room.dialog s → due ≡ unwrap_or (due_at s.dialog.host) never
+IsDue (Some room) due = (s : Standing) → IsAt room.dialog s → due ≡ unwrap_or (due_of s.kind) never

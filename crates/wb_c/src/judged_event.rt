@@ -6,8 +6,8 @@ ghost use Rattle.wb_c.specs.JudgedEvents.{bytes_of, fate_kind, fetch_bytes, kind
 
 use std::alloc::{AllocError, Global};
 use wb_codec::write;
+use wb_dialog::write_record;
 use wb_judge::{Origin, Warning, Why};
-use wb_judged_dialog::write_record;
 use wb_judging::{Event, Fate};
 use wb_names::Name;
 

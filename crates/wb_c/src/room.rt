@@ -7,14 +7,14 @@ use crate::taken::bytes_of;
 use std::alloc::{AllocError, Global};
 use std::collections::VecDeque;
 use std::convert::Infallible;
-use wb_judged_dialog::JudgedDialog;
+use wb_dialog::Dialog;
 use wb_lines::{Handler, MAX_LINE_LEN, Output, Stop};
 use wb_recovery::Tuning;
 
 /// A host, the block of its last line and the events of its calls by bytes, until these are fetched.
 #[derive(Drop)]
 pub struct Room {
-    pub(crate) dialog: JudgedDialog,
+    pub(crate) dialog: Dialog,
     pub(crate) block: Vec<u8>,
     pub(crate) events: VecDeque<Event>,
 }
@@ -39,7 +39,7 @@ impl Room {
         ensures events { result.events.items ≡ [] }
     {
         Room {
-            dialog: JudgedDialog::new(Tuning::default()),
+            dialog: Dialog::new(Tuning::default()),
             block: Vec::new(alloc),
             events: VecDeque::new(alloc),
         }

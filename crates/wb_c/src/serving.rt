@@ -1,11 +1,12 @@
 //! Calls by bytes at a host: they are those of its self-managing member, or of its judged one.
-ghost use Rattle.std.specs.Prelude.{◌≡◌, IfOk, Ok};
+ghost use Rattle.std.specs.Prelude.{◌≡◌, IfOk, Ok, is_some};
 ghost use Rattle.wb_names.specs.Moments.{IsMoment};
 ghost use Rattle.wb_codec.specs.Reading.{reading};
 ghost use Rattle.wb_keeping.specs.Calls.{IsWithin, line_of};
 ghost use Rattle.wb_member.specs.Questions.{IsAnswerable};
 ghost use Rattle.wb_c.specs.Performing.{Answers, Performs};
-ghost use Rattle.wb_c.specs.Serving.{Adds, AddsBy, Asks, AtMember, CameBy, Draws, GivesEvent, Takes, TicksBy, read_by};
+ghost use Rattle.wb_dialog.specs.Doing.{judged_in};
+ghost use Rattle.wb_c.specs.Serving.{Adds, AddsBy, Asks, AtAny, AtMember, AtOwn, CameBy, Draws, GivesEvent, Takes, TicksBy, read_by};
 
 use crate::performing::{ask, perform};
 use crate::query::query_of;
@@ -15,7 +16,7 @@ use crate::status::{
 };
 use std::alloc::{AllocError, Global};
 use wb_codec::{Datagram, ReadFault, read};
-use wb_judging::{Call, News};
+use wb_judging::{Call, JudgedMember, News};
 use wb_keeping::KeptCall;
 use wb_member::Query;
 use wb_names::{Drawop, MOMENT_LIMIT, PageId, shape_of};
@@ -136,8 +137,23 @@ impl Room {
         }
     }
 
-    /// It is asked a question.
-    fn answers(&mut self, alloc: Global, query: Query) -> Result<u32, AllocError>
+    /// It is asked a question, if it is judged.
+    fn answers_judged(&mut self, alloc: Global, query: Query) -> Result<u32, AllocError>
+        requires { IsAnswerable query }
+        ensures { IfOk result
+            (AtOwn (Answers query) (judged_in self.old.dialog.host) self.old self.new) }
+    {
+        let Some(member) = self.dialog.take_member() else {
+            return Ok(NOT_KEPT);
+        };
+        let (mut kept, judge) = member.into_parts();
+        let status = ask(alloc, &mut kept, query, &mut self.events);
+        self.dialog.put_member(JudgedMember::of_parts(kept, judge));
+        status
+    }
+
+    /// It is asked a question, if it is not judged.
+    fn answers_kept(&mut self, alloc: Global, query: Query) -> Result<u32, AllocError>
         requires { IsAnswerable query }
         ensures { IfOk result (AtMember (Answers query) self.old self.new) }
     {
@@ -147,6 +163,19 @@ impl Room {
         let status = ask(alloc, &mut kept, query, &mut self.events);
         self.dialog.put_kept(kept);
         status
+    }
+
+    /// It is asked a question.
+    fn answers(&mut self, alloc: Global, query: Query) -> Result<u32, AllocError>
+        requires { IsAnswerable query }
+        ensures { IfOk result
+            (AtAny (is_some (judged_in self.old.dialog.host)) (Answers query) self.old self.new) }
+    {
+        if self.dialog.is_judged() {
+            self.answers_judged(alloc, query)
+        } else {
+            self.answers_kept(alloc, query)
+        }
     }
 
     /// It is asked the question of this number, about a page.

@@ -9,61 +9,61 @@ use Rattle.wb_lines.specs.Handling.{Met, whole, too_long}
 use Rattle.wb_lines.specs.Taking.{met, is_taken, is_short}
 use Rattle.wb_dialog.specs.declared.fault.Refusal.{Refusal}
 use Rattle.wb_dialog.specs.Dialog.{answered_lines, ok_line, refused_line}
-use Rattle.wb_dialog.specs.Hosting.{Hosting, Reply, prints, denies, reply_of, block_of, blocks_from, hosting_after, hosting_from, due_at, unopened}
+use Rattle.wb_dialog.specs.Kinds.{Standing, Response, answers, rejects, response_of, block_of, blocks_from, after, standing_from, due_of, unopened}
 use Rattle.wb_dialog.specs.Laws.{RefusedStays, IsBlock, EachIsAnswered, FrontsAreFronts, is_given, accepted_lines, accepted_blocks, AcceptedAlone}
 use Rattle.wb_dialog.proofs.Fronts.{begins_empty, begins_behind}
 
 -- ---- a refused line
 
-after_refused : (s : Hosting) (line : InputLine) (e : Refusal) → reply_of s (met line) ≡ denies e → hosting_after s (reply_of s (met line)) ≡ s
-after_refused s line e is = ap (hosting_after s) is
+after_refused : (s : Standing) (line : InputLine) (e : Refusal) → response_of s (met line) ≡ rejects e → after s (response_of s (met line)) ≡ s
+after_refused s line e is = ap (after s) is
 
 pub refused_stays : RefusedStays
 refused_stays s [] rest line e is = (
   after_refused s line e is,
-  ap (λ (a : Reply). block_of a ∷ blocks_from (hosting_after s a) rest) is,
+  ap (λ (a : Response). block_of a ∷ blocks_from (after s a) rest) is,
 )
 refused_stays s (first ∷ front) rest line e is =
-    let at = refused_stays (hosting_after s (reply_of s (met first))) front rest line e is in (
+    let at = refused_stays (after s (response_of s (met first))) front rest line e is in (
       at.0,
-      ap (λ (blocks : List (List ℕ)). block_of (reply_of s (met first)) ∷ blocks) at.1,
+      ap (λ (blocks : List (List ℕ)). block_of (response_of s (met first)) ∷ blocks) at.1,
     )
 
 -- ---- blocks
 
-is_block : (a : Reply) → IsBlock (block_of a)
-is_block (prints s text) = record { text = text; line = ok_line (due_at s); closing = inl (due_at s, refl); is = refl }
-is_block (denies e) = record { text = []; line = refused_line e; closing = inr (e, refl); is = refl }
+is_block : (a : Response) → IsBlock (block_of a)
+is_block (answers s text) = record { text = text; line = ok_line (due_of s); closing = inl (due_of s, refl); is = refl }
+is_block (rejects e) = record { text = []; line = refused_line e; closing = inr (e, refl); is = refl }
 
 pub each_is_answered : EachIsAnswered
 each_is_answered s [] = (refl, All-nil IsBlock)
 each_is_answered s (line ∷ lines) =
-    let rest = each_is_answered (hosting_after s (reply_of s (met line))) lines in (
+    let rest = each_is_answered (after s (response_of s (met line))) lines in (
       ap (λ (n : ℕ). suc n) rest.0,
-      All-cons IsBlock (block_of (reply_of s (met line))) (blocks_from (hosting_after s (reply_of s (met line))) lines) (is_block (reply_of s (met line))) rest.1,
+      All-cons IsBlock (block_of (response_of s (met line))) (blocks_from (after s (response_of s (met line))) lines) (is_block (response_of s (met line))) rest.1,
     )
 
 -- ---- the accepted lines alone
 
-stays : (s : Hosting) (a : Reply) → is_given a ≡ false → hosting_after s a ≡ s
-stays s (prints t text) given = absurd cc
-stays s (denies e) given = refl
+stays : (s : Standing) (a : Response) → is_given a ≡ false → after s a ≡ s
+stays s (answers t text) given = absurd cc
+stays s (rejects e) given = refl
 
 -- one line, accepted or not
-abbrev Alone : Hosting → List InputLine → List (List ℕ) → Hosting → Type 0
-Alone s lines blocks end = (blocks_from s lines ≡ blocks) × (hosting_from s lines ≡ end)
+abbrev Alone : Standing → List InputLine → List (List ℕ) → Standing → Type 0
+Alone s lines blocks end = (blocks_from s lines ≡ blocks) × (standing_from s lines ≡ end)
 
-alone : (given : Bool) (s : Hosting) (line : InputLine) (lines : List InputLine) (blocks : List (List ℕ)) (end : Hosting)
-    → (given ≡ false → hosting_after s (reply_of s (met line)) ≡ s) → Alone (hosting_after s (reply_of s (met line))) lines blocks end
-    → Alone s (if given then line ∷ lines else lines) (if given then block_of (reply_of s (met line)) ∷ blocks else blocks) end
-alone true s line lines blocks end same rest = (ap (λ (x : List (List ℕ)). block_of (reply_of s (met line)) ∷ x) rest.0, rest.1)
-alone false s line lines blocks end same rest = subst (λ (t : Hosting). Alone t lines blocks end) (same refl) rest
+alone : (given : Bool) (s : Standing) (line : InputLine) (lines : List InputLine) (blocks : List (List ℕ)) (end : Standing)
+    → (given ≡ false → after s (response_of s (met line)) ≡ s) → Alone (after s (response_of s (met line))) lines blocks end
+    → Alone s (if given then line ∷ lines else lines) (if given then block_of (response_of s (met line)) ∷ blocks else blocks) end
+alone true s line lines blocks end same rest = (ap (λ (x : List (List ℕ)). block_of (response_of s (met line)) ∷ x) rest.0, rest.1)
+alone false s line lines blocks end same rest = subst (λ (t : Standing). Alone t lines blocks end) (same refl) rest
 
 pub accepted_alone : AcceptedAlone
 accepted_alone s [] = (refl, refl)
 accepted_alone s (line ∷ lines) =
-    let a = reply_of s (met line) in
-    alone (is_given a) s line (accepted_lines (hosting_after s a) lines) (accepted_blocks (hosting_after s a) lines) (hosting_from (hosting_after s a) lines) (stays s a) (accepted_alone (hosting_after s a) lines)
+    let a = response_of s (met line) in
+    alone (is_given a) s line (accepted_lines (after s a) lines) (accepted_blocks (after s a) lines) (standing_from (after s a) lines) (stays s a) (accepted_alone (after s a) lines)
 
 -- ---- fronts
 
@@ -122,19 +122,19 @@ long_too cut l m unended on taken =
     longer : (l m : InputLine) (more : List ℕ) → m.bytes ≡ l.bytes ++ more → is_short l ≡ false → is_short m ≡ false
     longer l m more is long = let len : length m.bytes ≡ length l.bytes + length more = ap length is ∙ length-append l.bytes more in grind (arith, nat_tests)
 
-abbrev Begins : Hosting → List InputLine → List InputLine → Type 0
+abbrev Begins : Standing → List InputLine → List InputLine → Type 0
 Begins s ls ms = BeginsWith (concat (blocks_from s ms)) (concat (blocks_from s ls))
 
-begins_line : (t u : Bool) (s : Hosting) (l m : InputLine) (ls ms : List InputLine) → (t ≡ true → (u ≡ true) × (met m ≡ met l)) → ((next : Hosting) → Begins next ls ms)
+begins_line : (t u : Bool) (s : Standing) (l m : InputLine) (ls ms : List InputLine) → (t ≡ true → (u ≡ true) × (met m ≡ met l)) → ((next : Standing) → Begins next ls ms)
     → Begins s (if t then l ∷ ls else []) (if u then m ∷ ms else [])
 begins_line false u s l m ls ms same rest = begins_empty (concat (blocks_from s (if u then m ∷ ms else [])))
 begins_line true false s l m ls ms same rest = absurd (let e = (same refl).0 in cc)
 begins_line true true s l m ls ms same rest =
-    let a = reply_of s (met l) in
-    subst (λ (x : Met). BeginsWith (block_of (reply_of s x) ++ concat (blocks_from (hosting_after s (reply_of s x)) ms)) (block_of a ++ concat (blocks_from (hosting_after s a) ls))) (sym (same refl).1)
-    (begins_behind (block_of a) (concat (blocks_from (hosting_after s a) ms)) (concat (blocks_from (hosting_after s a) ls)) (rest (hosting_after s a)))
+    let a = response_of s (met l) in
+    subst (λ (x : Met). BeginsWith (block_of (response_of s x) ++ concat (blocks_from (after s (response_of s x)) ms)) (block_of a ++ concat (blocks_from (after s a) ls))) (sym (same refl).1)
+    (begins_behind (block_of a) (concat (blocks_from (after s a) ms)) (concat (blocks_from (after s a) ls)) (rest (after s a)))
 
-begins_from : (cut : Bool) (s : Hosting) (ls ms : List InputLine) → GoesOn ls ms → Begins s (answered_lines true ls) (answered_lines cut ms)
+begins_from : (cut : Bool) (s : Standing) (ls ms : List InputLine) → GoesOn ls ms → Begins s (answered_lines true ls) (answered_lines cut ms)
 begins_from cut s [] ms on = begins_empty (concat (blocks_from s (answered_lines cut ms)))
 begins_from cut s (l ∷ ls) [] on = absurd on
 begins_from cut s (l ∷ ls) (m ∷ ms) (inl on) =

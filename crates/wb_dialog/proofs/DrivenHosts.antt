@@ -11,63 +11,64 @@ use Rattle.wb_lines.specs.Taking.{met, is_taken}
 use Rattle.wb_dialog.specs.declared.fault.Refusal.{Refusal}
 use Rattle.wb_dialog.specs.declared.line.DriverLine.{DriverLine}
 use Rattle.wb_dialog.specs.declared.line.DriverLine.TheVariants.{Keep}
+use Rattle.wb_dialog.specs.Boards.{BoardValue}
 use Rattle.wb_dialog.specs.Dialog as plain
 use Rattle.wb_dialog.specs.Dialog.{Answer, gives, refuses, answer, answer_at, answer_first, answer_of, block, says_line, answered_lines}
 use Rattle.wb_dialog.specs.Hosting as hosting
-use Rattle.wb_dialog.specs.Hosting.{Host, Driven, Reply, prints, denies, as_driven, driven_host, reply, reply_of, block_of, seed_after, seed_in}
+use Rattle.wb_dialog.specs.Hosting.{Host, Driven, Reply, prints, denies, as_driven, driven_host, reply, reply_of, block_of, board_after, board_in}
 use Rattle.wb_dialog.specs.Laws.{BeginsNoKeep, DrivenAsBefore}
 
 -- ---- one line
 
--- the host that its driver drives, with some seed
-abbrev pub with_seed : Option ℕ → plain.State → hosting.Hosting
-with_seed seed s = record { tuning = s.tuning; host = driven_host seed s.host }
+-- the host that its driver drives, with some board
+abbrev pub with_board : Option BoardValue → plain.State → hosting.Hosting
+with_board board s = record { tuning = s.tuning; host = driven_host board s.host }
 
--- It answers as before, and keeps some seed.
-abbrev AnswersAs : plain.State → Option ℕ → Result DriverLine Refusal → Type 0
-AnswersAs s seed said = (later : Option ℕ) × (reply s.tuning (driven_host seed s.host) said ≡ as_driven later (answer s.tuning s.host said))
+-- It answers as before, and keeps some board.
+abbrev AnswersAs : plain.State → Option BoardValue → Result DriverLine Refusal → Type 0
+AnswersAs s board said = (later : Option BoardValue) × (reply s.tuning (driven_host board s.host) said ≡ as_driven later (answer s.tuning s.host said))
 
-by_line : (tuning : Tuning) (host : Option Opened) (seed : Option ℕ) (line : DriverLine) → BeginsNoKeep (Ok line) → AnswersAs (record { tuning = tuning; host = host }) seed (Ok line)
-by_line tuning host seed (Keep rate listen) plainly = absurd plainly
-by_line tuning None seed line plainly = (seed_in line, refl)
-by_line tuning (Some host) seed line plainly = (seed_after line seed, refl)
+by_line : (tuning : Tuning) (host : Option Opened) (board : Option BoardValue) (line : DriverLine) → BeginsNoKeep (Ok line) → AnswersAs (record { tuning = tuning; host = host }) board (Ok line)
+by_line tuning host board (Keep rate listen) plainly = absurd plainly
+by_line tuning None board line plainly = (board_in line, refl)
+by_line tuning (Some host) board line plainly = (board_after line board, refl)
 
-answers_as : (s : plain.State) (seed : Option ℕ) (said : Result DriverLine Refusal) → BeginsNoKeep said → AnswersAs s seed said
-answers_as s seed (Ok line) plainly = by_line s.tuning s.host seed line plainly
-answers_as s seed (Err e) plainly = (seed, refl)
+answers_as : (s : plain.State) (board : Option BoardValue) (said : Result DriverLine Refusal) → BeginsNoKeep said → AnswersAs s board said
+answers_as s board (Ok line) plainly = by_line s.tuning s.host board line plainly
+answers_as s board (Err e) plainly = (board, refl)
 
 -- ---- blocks
 
-due_same : (seed : Option ℕ) (host : Option Opened) → hosting.due_at (driven_host seed host) ≡ plain.due host
-due_same seed None = refl
-due_same seed (Some host) = refl
+due_same : (board : Option BoardValue) (host : Option Opened) → hosting.due_at (driven_host board host) ≡ plain.due host
+due_same board None = refl
+due_same board (Some host) = refl
 
-block_same : (seed : Option ℕ) (a : Answer) → block_of (as_driven seed a) ≡ block a
-block_same seed (gives host text) = ap (λ (moment : Option ℕ). text ++ plain.ok_line moment) (due_same seed host)
-block_same seed (refuses e) = refl
+block_same : (board : Option BoardValue) (a : Answer) → block_of (as_driven board a) ≡ block a
+block_same board (gives host text) = ap (λ (moment : Option ℕ). text ++ plain.ok_line moment) (due_same board host)
+block_same board (refuses e) = refl
 
 -- a host after a line is such a one
-abbrev IsWithSeed : plain.State → hosting.Hosting → Type 0
-IsWithSeed s h = (seed : Option ℕ) × (h ≡ with_seed seed s)
+abbrev IsWithBoard : plain.State → hosting.Hosting → Type 0
+IsWithBoard s h = (board : Option BoardValue) × (h ≡ with_board board s)
 
-after_same : (s : plain.State) (seed later : Option ℕ) (a : Answer) → IsWithSeed (plain.state_after s a) (hosting.hosting_after (with_seed seed s) (as_driven later a))
-after_same s seed later (gives host text) = (later, refl)
-after_same s seed later (refuses e) = (seed, refl)
+after_same : (s : plain.State) (board later : Option BoardValue) (a : Answer) → IsWithBoard (plain.state_after s a) (hosting.hosting_after (with_board board s) (as_driven later a))
+after_same s board later (gives host text) = (later, refl)
+after_same s board later (refuses e) = (board, refl)
 
 abbrev NoneBegins : List InputLine → Type 0
 NoneBegins [] = Unit {0}
 NoneBegins (line ∷ lines) = BeginsNoKeep (says_line (met line)) × NoneBegins lines
 
-blocks_same : (s : plain.State) (h : hosting.Hosting) (lines : List InputLine) → IsWithSeed s h → NoneBegins lines → hosting.blocks_from h lines ≡ plain.blocks_from s lines
+blocks_same : (s : plain.State) (h : hosting.Hosting) (lines : List InputLine) → IsWithBoard s h → NoneBegins lines → hosting.blocks_from h lines ≡ plain.blocks_from s lines
 blocks_same s h [] at plainly = refl
 blocks_same s h (line ∷ lines) at plainly =
-    let h' : hosting.Hosting = with_seed at.0 s in
+    let h' : hosting.Hosting = with_board at.0 s in
     let said = says_line (met line) in
     let it = answers_as s at.0 said plainly.0 in
     let a : Answer = answer_of s (met line) in
     let one : block_of (reply_of h' (met line)) ≡ block a = ap block_of it.1 ∙ block_same it.0 a in
-    let next : IsWithSeed (plain.state_after s a) (hosting.hosting_after h' (reply_of h' (met line))) =
-    subst (λ (r : Reply). IsWithSeed (plain.state_after s a) (hosting.hosting_after h' r)) (sym it.1) (after_same s at.0 it.0 a) in
+    let next : IsWithBoard (plain.state_after s a) (hosting.hosting_after h' (reply_of h' (met line))) =
+    subst (λ (r : Reply). IsWithBoard (plain.state_after s a) (hosting.hosting_after h' r)) (sym it.1) (after_same s at.0 it.0 a) in
     let rest = blocks_same (plain.state_after s a) (hosting.hosting_after h' (reply_of h' (met line))) lines next plainly.1 in
     ap (λ (t : hosting.Hosting). hosting.blocks_from t (line ∷ lines)) at.1
     ∙ ap (λ (b : List ℕ). b ∷ hosting.blocks_from (hosting.hosting_after h' (reply_of h' (met line))) lines) one

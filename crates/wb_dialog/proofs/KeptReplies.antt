@@ -4,9 +4,9 @@ use Rattle.std.specs.Prelude.{IsTrue, is_some}
 use Rattle.wb_codec.specs.declared.datagram.Datagram.{Datagram}
 use Rattle.wb_keeper.specs.declared.keep_fault.KeepFault.TheVariants as keep_faults
 use Rattle.wb_member.specs.Holding.{IsOpenAt, MemberValue}
-use Rattle.wb_member.specs.Opened.{Opened, next_due, present}
+use Rattle.wb_member.specs.Opened.{Opened, present}
 use Rattle.wb_keeping.specs.Kept.{Transition}
-use Rattle.wb_keeping.specs.Performing.{IsKeptAt, Keeping, KeptValue, after_doing, due as kept_due, sent_by_doing}
+use Rattle.wb_keeping.specs.Performing.{IsKeptAt, Keeping, KeptValue, after_doing, sent_by_doing}
 use Rattle.wb_policy.specs.Policy.{begun}
 use Rattle.wb_keeping.specs.Refusing.{IsRefusedBy}
 use Rattle.wb_keeping.specs.declared.kept_fault.KeptFault.{KeptFault}
@@ -27,8 +27,9 @@ use Rattle.wb_dialog.specs.declared.fault.Unanswered.TheVariants as unanswered
 use Rattle.wb_dialog.specs.declared.opened.Host.TheVariants as values
 use Rattle.wb_dialog.specs.Dialog.{Answer, gives, refuses, answer_at, answered}
 use Rattle.wb_dialog.specs.Lines.{asks, unanswered_by}
-use Rattle.wb_dialog.specs.Hosting.{Host, Driven, Kept, prints, denies, as_driven, due_at, in_time, keep_reply, kept_does, kept_refusal, kept_reply, kept_shows, seed_after, taken_by}
-use Rattle.wb_dialog.specs.Doing.{Adds, DoesAnswer, DoesAt, DoesKept, DoesReply, IsHostAt, Tells, seed_by, text_in, unanswered_of}
+use Rattle.wb_dialog.specs.Boards.{BoardValue}
+use Rattle.wb_dialog.specs.Hosting.{Host, Driven, Kept, prints, denies, as_driven, board_after, keep_reply, kept_does, kept_refusal, kept_reply, kept_shows, taken_by, timed_target}
+use Rattle.wb_dialog.specs.Doing.{Adds, DoesAnswer, DoesAt, DoesKept, DoesReply, IsHostAt, Tells, board_by, text_in, unanswered_of}
 
 -- ---- a call of its member
 
@@ -39,12 +40,12 @@ fault_in f (Err e) = e
 module _ (X U : Type 0) (old new : KeptValue) (k : Keeping) (does : Transition) (text : List ℕ) where
   -- It was refused, and the line is.
   pub refuses_line : (fault : Option KeptFault) (e : KeptFault) → IsRefusedBy {X = X} fault (Err e) → (IsTrue (is_some fault) → new ≡ old) → IsKeptAt old k
-      → DoesReply {U = U} (Some (Kept k)) (Some (values.Kept new)) [] (Err (unanswered_of e)) (kept_does fault does text k)
+      → DoesReply {U = U} (Some (Kept k)) (Some (values.Kept new)) [] (Err (unanswered_of timed_target e)) (kept_does fault does text k)
   refuses_line (Some f) e is same at = by e f (ap (fault_in {X = X} f) is) where
     stays : IsKeptAt new k
     stays = subst (λ (v : KeptValue). IsKeptAt v k) (sym (same refl)) at
 
-    itself : (e : KeptFault) → DoesReply {U = U} (Some (Kept k)) (Some (values.Kept new)) [] (Err (unanswered_of e)) (denies (kept_refusal e))
+    itself : (e : KeptFault) → DoesReply {U = U} (Some (Kept k)) (Some (values.Kept new)) [] (Err (unanswered_of timed_target e)) (denies (kept_refusal timed_target e))
     itself (kept_faults.Host keep_faults.Memory) = begins_empty []
     itself (kept_faults.Host keep_faults.BackInTime) = (refl, stays, refl)
     itself (kept_faults.Host keep_faults.Range) = (refl, stays, refl)
@@ -54,10 +55,10 @@ module _ (X U : Type 0) (old new : KeptValue) (k : Keeping) (does : Transition) 
     itself kept_faults.Numbers = (refl, stays, refl)
     itself (kept_faults.Operation fault) = (refl, stays, refl)
 
-    by : (e f : KeptFault) → e ≡ f → DoesReply {U = U} (Some (Kept k)) (Some (values.Kept new)) [] (Err (unanswered_of e)) (denies (kept_refusal f))
-    by e f e-is = subst (λ (g : KeptFault). DoesReply {U = U} (Some (Kept k)) (Some (values.Kept new)) [] (Err (unanswered_of e)) (denies (kept_refusal g))) e-is (itself e)
+    by : (e f : KeptFault) → e ≡ f → DoesReply {U = U} (Some (Kept k)) (Some (values.Kept new)) [] (Err (unanswered_of timed_target e)) (denies (kept_refusal timed_target f))
+    by e f e-is = subst (λ (g : KeptFault). DoesReply {U = U} (Some (Kept k)) (Some (values.Kept new)) [] (Err (unanswered_of timed_target e)) (denies (kept_refusal timed_target g))) e-is (itself e)
   refuses_line None e is same at =
-      subst (λ (f : KeptFault). DoesReply {U = U} (Some (Kept k)) (Some (values.Kept new)) [] (Err (unanswered_of f)) (kept_does None does text k)) (sym is)
+      subst (λ (f : KeptFault). DoesReply {U = U} (Some (Kept k)) (Some (values.Kept new)) [] (Err (unanswered_of timed_target f)) (kept_does None does text k)) (sym is)
       (begins_empty (text_in (kept_does None does text k)))
 
 module _ {X U : Type 0} (old new : KeptValue) (k : Keeping) (does : Transition) (text : List ℕ) where
@@ -79,58 +80,36 @@ module _ {X U : Type 0} (old new : KeptValue) (k : Keeping) (does : Transition) 
 
 -- ---- a host that its driver drives
 
--- What a member does for a line, a host does that it is, and keeps what is left of its seed.
-pub drives : {U : Type 0} (host : Opened) (new : MemberValue) (seed left later : Option ℕ) (written : List ℕ) (result : Result U Unanswered) (a : Answer) → DoesAnswer (Some host) (Some new) written result a → left ≡ seed_by result seed later
-    → DoesReply (Some (Driven host seed)) (Some (values.Driven new left)) written result (as_driven later a)
-drives host new seed left later written (Ok u) (gives None text) does is = absurd does.0
-drives host new seed left later written (Ok u) (gives (Some next) text) does is = ((does.0, is), does.1)
-drives host new seed left later written (Ok u) (refuses e) does is = absurd does
-drives host new seed left later written (Err (unanswered.Refused f)) (gives next text) does is = absurd does
-drives host new seed left later written (Err (unanswered.Refused f)) (refuses e) does is = (does.0, (does.1, is), does.2)
-drives host new seed left later written (Err unanswered.Memory) (gives next text) does is = does
-drives host new seed left later written (Err unanswered.Memory) (refuses e) does is = does
+-- What a member does for a line, a host does that it is, and keeps what is left of its board.
+drives : {U : Type 0} (host : Opened) (new : MemberValue) (board left later : Option BoardValue) (written : List ℕ) (result : Result U Unanswered) (a : Answer) → DoesAnswer (Some host) (Some new) written result a → left ≡ board_by result board later
+    → DoesReply (Some (Driven host board)) (Some (values.Driven new left)) written result (as_driven later a)
+drives host new board left later written (Ok u) (gives None text) does is = absurd does.0
+drives host new board left later written (Ok u) (gives (Some next) text) does is = ((does.0, is), does.1)
+drives host new board left later written (Ok u) (refuses e) does is = absurd does
+drives host new board left later written (Err (unanswered.Refused f)) (gives next text) does is = absurd does
+drives host new board left later written (Err (unanswered.Refused f)) (refuses e) does is = (does.0, (does.1, is), does.2)
+drives host new board left later written (Err unanswered.Memory) (gives next text) does is = does
+drives host new board left later written (Err unanswered.Memory) (refuses e) does is = does
 
--- ---- a host of either kind
+pub taken_driven : {U : Type 0} (line : DriverLine) (old new : MemberValue) (board left : Option BoardValue) (written : List ℕ) (result : Result U Unanswered) → DoesAt old new written result (answer_at line) → left ≡ board_by result board (board_after line board)
+    → (h : Host) → IsHostAt (values.Driven old board) h → DoesReply (Some h) (Some (values.Driven new left)) written result (taken_by line h)
+taken_driven line old new board left written result does is (Driven host own) at =
+    subst (λ (b : Option BoardValue). DoesReply (Some (Driven host b)) (Some (values.Driven new left)) written result (as_driven (board_after line b) (answer_at line host))) at.1
+    (drives host new board left (board_after line board) written result (answer_at line host) (does host at.0) is)
+taken_driven line old new board left written result does is (Kept k) at = absurd at
 
--- What a driven host takes, it does as its member.
-pub taken_driven : {U : Type 0} (line : DriverLine) (old new : MemberValue) (seed left : Option ℕ) (written : List ℕ) (result : Result U Unanswered) → DoesAt old new written result (answer_at line) → left ≡ seed_by result seed (seed_after line seed)
-    → (h : Host) → IsHostAt (values.Driven old seed) h → DoesReply (Some h) (Some (values.Driven new left)) written result (taken_by line h)
-taken_driven line old new seed left written result does is (Driven host own) at =
-    subst (λ (s : Option ℕ). DoesReply (Some (Driven host s)) (Some (values.Driven new left)) written result (as_driven (seed_after line s) (answer_at line host))) at.1
-    (drives host new seed left (seed_after line seed) written result (answer_at line host) (does host at.0) is)
-taken_driven line old new seed left written result does is (Kept k) at = absurd at
-
-pub taken_kept : {U : Type 0} (line : DriverLine) (old new : KeptValue) (written : List ℕ) (result : Result U Unanswered) → DoesKept old new written result (kept_reply line) → (h : Host) → IsHostAt (values.Kept old) h
-    → DoesReply (Some h) (Some (values.Kept new)) written result (taken_by line h)
-taken_kept line old new written result does (Kept k) at = does k at
-taken_kept line old new written result does (Driven host own) at = absurd at
-
--- It becomes self-managing; or it is too late, or it is so already.
-pub begins_kept : (member : MemberValue) (kept : KeptValue) (rate listen seed : ℕ) → ((host : Opened) → IsOpenAt member host → IsKeptAt kept (record { host = host; policy = begun (present host) rate listen seed }))
-    → (h : Host) → IsHostAt (values.Driven member (Some seed)) h → DoesReply {U = Unit {0}} (Some h) (Some (values.Kept kept)) [] (Ok tt) (keep_reply rate listen (Some h))
-begins_kept member kept rate listen seed keeps (Driven host own) at =
-    subst (λ (s : Option ℕ). DoesReply {U = Unit {0}} (Some (Driven host s)) (Some (values.Kept kept)) [] (Ok tt) (keep_reply rate listen (Some (Driven host s)))) at.1 (keeps host at.0, refl)
-begins_kept member kept rate listen seed keeps (Kept k) at = absurd at
+-- It becomes self-managing; or it is too late.
+pub begins_kept : (member : MemberValue) (kept : KeptValue) (rate listen : ℕ) (board : BoardValue) → ((host : Opened) → IsOpenAt member host → IsKeptAt kept (record { host = host; policy = begun (present host) rate listen board.seed }))
+    → (h : Host) → IsHostAt (values.Driven member (Some board)) h → DoesReply {U = Unit {0}} (Some h) (Some (values.Kept kept)) [] (Ok tt) (keep_reply rate listen (Some h))
+begins_kept member kept rate listen board keeps (Driven host own) at =
+    subst (λ (b : Option BoardValue). DoesReply {U = Unit {0}} (Some (Driven host b)) (Some (values.Kept kept)) [] (Ok tt) (keep_reply rate listen (Some (Driven host b)))) at.1 (keeps host at.0, refl)
+begins_kept member kept rate listen board keeps (Kept k) at = absurd at
 
 pub begins_late : (member : MemberValue) (rate listen : ℕ) (h : Host) → IsHostAt (values.Driven member None) h
     → DoesReply {U = Unit {0}} (Some h) (Some (values.Driven member None)) [] (Err (unanswered.Refused refusals.TooLate)) (keep_reply rate listen (Some h))
 begins_late member rate listen (Driven host own) at =
-    subst (λ (s : Option ℕ). DoesReply {U = Unit {0}} (Some (Driven host s)) (Some (values.Driven member None)) [] (Err (unanswered.Refused refusals.TooLate)) (keep_reply rate listen (Some (Driven host s)))) at.1 (refl, (at.0, refl), refl)
+    subst (λ (b : Option BoardValue). DoesReply {U = Unit {0}} (Some (Driven host b)) (Some (values.Driven member None)) [] (Err (unanswered.Refused refusals.TooLate)) (keep_reply rate listen (Some (Driven host b)))) at.1 (refl, (at.0, refl), refl)
 begins_late member rate listen (Kept k) at = absurd at
-
-pub begins_again : (kept : KeptValue) (rate listen : ℕ) (h : Host) → IsHostAt (values.Kept kept) h
-    → DoesReply {U = Unit {0}} (Some h) (Some (values.Kept kept)) [] (Err (unanswered.Refused refusals.Kept)) (keep_reply rate listen (Some h))
-begins_again kept rate listen (Kept k) at = (refl, at, refl)
-begins_again kept rate listen (Driven host own) at = absurd at
-
--- when it is due
-pub due_driven : (member : MemberValue) (seed moment : Option ℕ) → ((host : Opened) → IsOpenAt member host → moment ≡ next_due host) → (h : Host) → IsHostAt (values.Driven member seed) h → moment ≡ due_at (Some h)
-due_driven member seed moment due (Driven host own) at = due host at.0
-due_driven member seed moment due (Kept k) at = absurd at
-
-pub due_itself : (kept : KeptValue) (moment : ℕ) → ((k : Keeping) → IsKeptAt kept k → moment ≡ kept_due k) → (h : Host) → IsHostAt (values.Kept kept) h → in_time moment ≡ due_at (Some h)
-due_itself kept moment due (Kept k) at = ap in_time (due k at)
-due_itself kept moment due (Driven host own) at = absurd at
 
 -- ---- a question
 

@@ -35,7 +35,8 @@ use Rattle.wb_dialog.specs.declared.fault.Refusal.TheVariants as refusals
 use Rattle.wb_dialog.specs.declared.line.DriverLine.{DriverLine}
 use Rattle.wb_dialog.specs.declared.line.DriverLine.TheVariants.{Script, Say, Keep, Came, Add}
 use Rattle.wb_dialog.specs.Dialog.{Answer, answer_at, answered, gives, refuses, says_line}
-use Rattle.wb_dialog.specs.Hosting.{Driven, Host, Hosting, Kept, Reply, as_driven, denies, host_after, hosting_after, hosting_from, is_acting, keep_reply, kept_does, kept_reply, kept_shows, reply, reply_of, reply_to, seed_after, taken_reply, unopened}
+use Rattle.wb_dialog.specs.Boards.{BoardValue}
+use Rattle.wb_dialog.specs.Hosting.{Driven, Host, Hosting, Kept, Reply, as_driven, denies, host_after, hosting_after, hosting_from, is_acting, keep_reply, kept_does, kept_reply, kept_shows, reply, reply_of, reply_to, board_after, taken_reply, unopened}
 use Rattle.wb_dialog.specs.KeptLaws.{AddIsNotTooMany}
 use Rattle.wb_board.specs.Counts.{MAX_CELLS}
 
@@ -46,7 +47,7 @@ MayCount host = host.is.cells ≤ MAX_CELLS → IsBounded host
 abbrev Counts : Option Host → Type 0
 Counts None = Unit {0}
 Counts (Some (Driven host None)) = Unit {0}
-Counts (Some (Driven host (Some seed))) = MayCount host
+Counts (Some (Driven host (Some board))) = MayCount host
 Counts (Some (Kept k)) = MayCount k.host
 
 -- ---- cells stay
@@ -81,48 +82,48 @@ kept_counts line k counts = counts
 
 -- ---- a host that its driver drives
 
-unseeded : (host : Opened) (a : Answer) → Counts (host_after (Some (Driven host None)) (as_driven None a))
-unseeded host (gives None text) = tt
-unseeded host (gives (Some next) text) = tt
-unseeded host (refuses e) = tt
+no_board : (host : Opened) (a : Answer) → Counts (host_after (Some (Driven host None)) (as_driven None a))
+no_board host (gives None text) = tt
+no_board host (gives (Some next) text) = tt
+no_board host (refuses e) = tt
 
 -- it may not become self-managing any more
-acted : (host : Opened) (seed : Option ℕ) (a : Answer) → Counts (Some (Driven host seed)) → Counts (host_after (Some (Driven host seed)) (as_driven None a))
-acted host seed (gives None text) counts = tt
-acted host seed (gives (Some next) text) counts = tt
-acted host seed (refuses e) counts = counts
+acted : (host : Opened) (board : Option BoardValue) (a : Answer) → Counts (Some (Driven host board)) → Counts (host_after (Some (Driven host board)) (as_driven None a))
+acted host board (gives None text) counts = tt
+acted host board (gives (Some next) text) counts = tt
+acted host board (refuses e) counts = counts
 
-ticks_count : (now seed : ℕ) (host : Opened) → MayCount host → Counts (host_after (Some (Driven host (Some seed))) (as_driven (Some seed) (answer_at (Script (lines.Call (calls.Tick now))) host)))
-ticks_count now seed host counts = by (call_fault (calls.Tick now) host) where
+ticks_count : (now : ℕ) (board : BoardValue) (host : Opened) → MayCount host → Counts (host_after (Some (Driven host (Some board))) (as_driven (Some board) (answer_at (Script (lines.Call (calls.Tick now))) host)))
+ticks_count now board host counts = by (call_fault (calls.Tick now) host) where
   ticked_too : MayCount (ticked now host)
   ticked_too few = bounded_line (Calls (calls.Tick now)) host (counts few) tt
 
-  by : (fault : Option KeepFault) → Counts (host_after (Some (Driven host (Some seed))) (as_driven (Some seed) (answered (unless fault (does (ticked now host) (call_text (calls.Tick now) host))))))
+  by : (fault : Option KeepFault) → Counts (host_after (Some (Driven host (Some board))) (as_driven (Some board) (answered (unless fault (does (ticked now host) (call_text (calls.Tick now) host))))))
   by None = ticked_too
   by (Some Memory) = ticked_too
   by (Some e) = counts
 
-asks_count : (seed : ℕ) (host : Opened) (text : Option (List ℕ)) → MayCount host → Counts (host_after (Some (Driven host (Some seed))) (as_driven (Some seed) (answered (tells host text))))
-asks_count seed host None counts = counts
-asks_count seed host (Some text) counts = counts
+asks_count : (board : BoardValue) (host : Opened) (text : Option (List ℕ)) → MayCount host → Counts (host_after (Some (Driven host (Some board))) (as_driven (Some board) (answered (tells host text))))
+asks_count board host None counts = counts
+asks_count board host (Some text) counts = counts
 
-either_seed : (b : Bool) (seed : Option ℕ) → cond b seed seed ≡ seed
-either_seed true seed = refl
-either_seed false seed = refl
+either_board : (b : Bool) (board : Option BoardValue) → cond b board board ≡ board
+either_board true board = refl
+either_board false board = refl
 
-script_counts : (line : Command) (host : Opened) (seed : ℕ) → MayCount host → Counts (host_after (Some (Driven host (Some seed))) (as_driven (seed_after (Script line) (Some seed)) (answer_at (Script line) host)))
-script_counts (lines.Call (calls.Tick now)) host seed counts = ticks_count now seed host counts
-script_counts (lines.Question query) host seed counts = asks_count seed host (answer_text (answer_to query host)) counts
-script_counts lines.Skip host seed counts = counts
-script_counts (lines.Board member cells workers s) host seed counts = counts
-script_counts line host seed counts = acted host (Some seed) (answer_at (Script line) host) counts
+script_counts : (line : Command) (host : Opened) (board : BoardValue) → MayCount host → Counts (host_after (Some (Driven host (Some board))) (as_driven (board_after (Script line) (Some board)) (answer_at (Script line) host)))
+script_counts (lines.Call (calls.Tick now)) host board counts = ticks_count now board host counts
+script_counts (lines.Question query) host board counts = asks_count board host (answer_text (answer_to query host)) counts
+script_counts lines.Skip host board counts = counts
+script_counts (lines.Board member cells workers s) host board counts = counts
+script_counts line host board counts = acted host (Some board) (answer_at (Script line) host) counts
 
-driven_counts : (line : DriverLine) (host : Opened) (seed : Option ℕ) → Counts (Some (Driven host seed)) → Counts (host_after (Some (Driven host seed)) (as_driven (seed_after line seed) (answer_at line host)))
-driven_counts line host None counts = subst (λ (s : Option ℕ). Counts (host_after (Some (Driven host None)) (as_driven s (answer_at line host)))) (sym (either_seed (is_acting line) None)) (unseeded host (answer_at line host))
-driven_counts (Script line) host (Some seed) counts = script_counts line host seed counts
-driven_counts (Say v) host (Some seed) counts = acted host (Some seed) (answer_at (Say v) host) counts
-driven_counts (Keep rate listen) host (Some seed) counts = acted host (Some seed) (answer_at (Keep rate listen) host) counts
-driven_counts line host (Some seed) counts = counts
+driven_counts : (line : DriverLine) (host : Opened) (board : Option BoardValue) → Counts (Some (Driven host board)) → Counts (host_after (Some (Driven host board)) (as_driven (board_after line board) (answer_at line host)))
+driven_counts line host None counts = subst (λ (b : Option BoardValue). Counts (host_after (Some (Driven host None)) (as_driven b (answer_at line host)))) (sym (either_board (is_acting line) None)) (no_board host (answer_at line host))
+driven_counts (Script line) host (Some board) counts = script_counts line host board counts
+driven_counts (Say v) host (Some board) counts = acted host (Some board) (answer_at (Say v) host) counts
+driven_counts (Keep rate listen) host (Some board) counts = acted host (Some board) (answer_at (Keep rate listen) host) counts
+driven_counts line host (Some board) counts = counts
 
 -- ---- the first line
 
@@ -135,12 +136,12 @@ opened_counts tuning line = tt
 keeps_counting : (rate listen : ℕ) (h : Option Host) → Counts h → Counts (host_after h (keep_reply rate listen h))
 keeps_counting rate listen None counts = tt
 keeps_counting rate listen (Some (Driven host None)) counts = tt
-keeps_counting rate listen (Some (Driven host (Some seed))) counts = counts
+keeps_counting rate listen (Some (Driven host (Some board))) counts = counts
 keeps_counting rate listen (Some (Kept k)) counts = counts
 
 taken_counts : (tuning : Tuning) (h : Option Host) (line : DriverLine) → Counts h → Counts (host_after h (taken_reply tuning h line))
 taken_counts tuning None line counts = opened_counts tuning line
-taken_counts tuning (Some (Driven host seed)) line counts = driven_counts line host seed counts
+taken_counts tuning (Some (Driven host board)) line counts = driven_counts line host board counts
 taken_counts tuning (Some (Kept k)) line counts = kept_counts line k counts
 
 line_counts : (tuning : Tuning) (h : Option Host) (line : DriverLine) → Counts h → Counts (host_after h (reply_to tuning h line))

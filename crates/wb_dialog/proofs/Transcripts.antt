@@ -1,5 +1,5 @@
 -- What a driver of lines makes of a dialog is the transcript of its input.
-use Rattle.std.proofs.Common.{◌≡◌, ℕ, ◌+◌, Bool, true, false, List, [], ◌∷◌, ◌++◌, Result, Ok, Err, inl, inr, refl, sym, ap, subst, ◌∙◌, rules}
+use Rattle.std.proofs.Common.{◌≡◌, ℕ, ◌+◌, Bool, true, false, List, [], ◌∷◌, ◌++◌, Option, None, Result, Ok, Err, inl, inr, refl, sym, ap, subst, ◌∙◌, rules}
 use Rattle.std.proofs.Common.{◌<◌, ◌≤◌, ◌⊎◌, arith, length, Contains}
 use Rattle.std.proofs.lemmas.Bool.Decides.{nat_tests}
 use Rattle.std.specs.Prelude.{nat_lt, if◌then◌else◌}
@@ -16,8 +16,10 @@ use Rattle.wb_dialog.specs.declared.fault.HostFault.TheVariants as host_faults
 use Rattle.wb_names.proofs.Listings.{Contains-here, Contains-there}
 use Rattle.wb_dialog.proofs.Fronts.{begins_all, begins_empty, begins_behind, begins_front}
 use Rattle.wb_dialog.specs.Dialog.{answered_lines}
-use Rattle.wb_dialog.specs.Hosting.{Hosting, step, unopened, transcript, block_of, reply_of, hosting_after, blocks_from, IsEndless}
-use Rattle.wb_dialog.specs.Doing.{fault_of, Writes}
+use Rattle.wb_dialog.specs.Hosting.{IsEndless}
+use Rattle.wb_dialog.specs.Kinds.{Standing, step, unopened, transcript, block_of, response_of, after, blocks_from}
+use Rattle.wb_dialog.specs.declared.opened.Host.{Host as HostValue}
+use Rattle.wb_dialog.specs.Doing.{DialogValue, IsAt, IsKindAt, fault_of, Writes}
 
 -- ---- outcomes
 
@@ -47,20 +49,21 @@ turn true true true cut text rest o h = Tells-before text (concat rest) cut o h
 turn true true false cut text rest o h = begins_behind text (concat rest) [] (begins_empty (concat rest))
 
 -- the blocks of a line that is taken, and of those behind it
-blocks_of_taken : (taken : Bool) (s : Hosting) (line : InputLine) (lines : List InputLine)
-    → (if taken then block_of (reply_of s (met line)) ∷ blocks_from (hosting_after s (reply_of s (met line))) lines else []) ≡ blocks_from s (if taken then line ∷ lines else [])
+blocks_of_taken : (taken : Bool) (s : Standing) (line : InputLine) (lines : List InputLine)
+    → (if taken then block_of (response_of s (met line)) ∷ blocks_from (after s (response_of s (met line))) lines else []) ≡ blocks_from s (if taken then line ∷ lines else [])
 blocks_of_taken true s line lines = refl
 blocks_of_taken false s line lines = refl
 
 -- The outcome of lines, from a state on, is that of their blocks.
-pub outcome_tells : (most n : ℕ) (cut : Bool) (s : Hosting) (lines : List InputLine) → Tells (concat (blocks_from s (answered_lines cut lines))) cut (outcome_from (rules_of step most) cut n s lines)
+pub outcome_tells : (most n : ℕ) (cut : Bool) (s : Standing) (lines : List InputLine) → Tells (concat (blocks_from s (answered_lines cut lines))) cut (outcome_from (rules_of step most) cut n s lines)
+unfolding step
 outcome_tells most n true s [] = refl
 outcome_tells most n false s [] = (refl, refl)
 outcome_tells most n cut s (line ∷ lines) =
-    let a = reply_of s (met line) in
+    let a = response_of s (met line) in
     subst (λ (blocks : List (List ℕ)). Tells (concat blocks) cut (outcome_from (rules_of step most) cut n s (line ∷ lines)))
     (blocks_of_taken (is_taken cut line) s line (answered_lines cut lines))
-    (turn (nat_lt n most) (is_taken cut line) (is_passed line) cut (block_of a) (blocks_from (hosting_after s a) (answered_lines cut lines)) (outcome_from (rules_of step most) cut (n + 1) (hosting_after s a) lines) (outcome_tells most (n + 1) cut (hosting_after s a) lines))
+    (turn (nat_lt n most) (is_taken cut line) (is_passed line) cut (block_of a) (blocks_from (after s a) (answered_lines cut lines)) (outcome_from (rules_of step most) cut (n + 1) (after s a) lines) (outcome_tells most (n + 1) cut (after s a) lines))
 
 -- ---- what a host wrote
 
@@ -99,6 +102,13 @@ pub Hosts-meets : (text written : List ℕ) (cut : Bool) (o : Outcome Infallible
 Hosts-meets text written cut (writes t end) result tells (inl m) = subst (Hosts text cut written) (sym m.1) (Hosts-end text written t cut end tells m.0)
 Hosts-meets text written cut (writes t end) result tells (inr m) = Hosts-stop text written cut result m.0 (begins_front text t written (tells_front text t cut end tells) m.1)
 
+-- A dialog without a host stands where no board is open.
+pub begins_at : (d : DialogValue) → d.host ≡ None → IsAt d (unopened d.tuning)
+begins_at d is = record { tuning = refl; kind = subst (λ (h : Option HostValue). IsKindAt h (unopened d.tuning).kind) (sym is) tt }
+
+pub ends_well : {X : Type 0} (fault : HostFault) → ◌≡◌ {A = Result (Unit {0}) HostFault} (Ok tt) (Err fault) → X
+ends_well fault e = absurd cc
+
 -- What a driver wrote for the lines of an input is what a host writes of its transcript.
 pub hosts_transcript : (tuning : Tuning) (most : ℕ) (cut : Bool) (input written : List ℕ) (result : Result ℕ (DriveFault Infallible)) → Meets (outcome (rules_of step most) cut (unopened tuning) input) written result → Hosts (transcript tuning cut input) cut written result
 hosts_transcript tuning most cut input written result m =
@@ -128,16 +138,17 @@ few_yet n most e = grind (arith, nat_tests)
 none_left : (n most : ℕ) → nat_lt n most ≡ false → most ≤ n
 none_left n most e = grind (arith, nat_tests)
 
-ends_endless : (most n : ℕ) (cut : Bool) (s : Hosting) (lines : List InputLine) → n ≤ most → end_in (outcome_from (rules_of step most) cut n s lines) ≡ Err faults.Endless → (most < n + length lines) ⊎ HasLong lines
+ends_endless : (most n : ℕ) (cut : Bool) (s : Standing) (lines : List InputLine) → n ≤ most → end_in (outcome_from (rules_of step most) cut n s lines) ≡ Err faults.Endless → (most < n + length lines) ⊎ HasLong lines
+unfolding step
 ends_endless most n true s [] few e = absurd cc
 ends_endless most n false s [] few e = absurd cc
 ends_endless most n cut s (line ∷ lines) few e =
-    go (λ more h. ends_endless most (n + 1) cut (hosting_after s (reply_of s (met line))) lines more h) (nat_lt n most) (is_taken cut line) (is_passed line) refl refl e where
+    go (λ more h. ends_endless most (n + 1) cut (after s (response_of s (met line))) lines more h) (nat_lt n most) (is_taken cut line) (is_passed line) refl refl e where
       text : List ℕ
-      text = block_of (reply_of s (met line))
+      text = block_of (response_of s (met line))
 
       o : Outcome Infallible
-      o = outcome_from (rules_of step most) cut (n + 1) (hosting_after s (reply_of s (met line))) lines
+      o = outcome_from (rules_of step most) cut (n + 1) (after s (response_of s (met line))) lines
 
       later : (most < (n + 1) + length lines) ⊎ HasLong lines → (most < n + length (line ∷ lines)) ⊎ HasLong (line ∷ lines)
       later (inl more) = inl (omega (arith, more))

@@ -1,7 +1,6 @@
--- What a host does for the lines of a driver, whether its driver judges or it is self-managing, and what is written for them.
+-- What a host without a judge does for the lines of a driver, whether its driver judges or it is self-managing, and what is written for them.
 use Rattle.std.specs.Prelude.{ℕ, ◌<◌, ◌≤◌, ◌⊎◌, List, [], ◌∷◌, ◌++◌, length, Contains, Bool, true, false, nat_lt, Option, Some, None, Result, Ok, Err, if◌then◌else◌}
 use Rattle.std.specs.List.{concat}
-use Rattle.std.specs.declared.convert.Infallible.{Infallible}
 use Rattle.wb_names.specs.Arrivals.{Outcome, New, Again, Clash, Left}
 use Rattle.wb_names.specs.declared.fault.FieldFault.{FieldFault}
 use Rattle.wb_names.specs.declared.moment.TheConstants.{MOMENT_LIMIT}
@@ -18,7 +17,7 @@ use Rattle.wb_policy.specs.Policy.{begun}
 use Rattle.wb_keeping.specs.declared.kept_fault.KeptFault.{KeptFault}
 use Rattle.wb_keeping.specs.declared.kept_fault.KeptFault.TheVariants as kept_faults
 use Rattle.wb_lines.specs.Input.{InputLine, input_lines}
-use Rattle.wb_lines.specs.Handling.{Met, Step, goes}
+use Rattle.wb_lines.specs.Handling.{Met}
 use Rattle.wb_lines.specs.Taking.{met, most_passed}
 use Rattle.wb_words.specs.declared.adding.Adding.{Adding}
 use Rattle.wb_words.specs.declared.fault.WordFault.TheVariants as word_faults
@@ -30,12 +29,13 @@ use Rattle.wb_dialog.specs.declared.fault.Refusal.{Refusal}
 use Rattle.wb_dialog.specs.declared.fault.Refusal.TheVariants as refusals
 use Rattle.wb_dialog.specs.declared.line.DriverLine.{DriverLine}
 use Rattle.wb_dialog.specs.declared.line.DriverLine.TheVariants.{Script, Say, Keep, Came, Add}
+use Rattle.wb_dialog.specs.Boards.{BoardValue}
 use Rattle.wb_dialog.specs.Dialog.{Answer, gives, refuses, answer_at, answer_first, batch_of, ok_line, refused_line, says_line, answered_lines}
 
--- A host, once its board is open. If its driver judges, it may become self-managing, with the seed of its board, until a line
+-- A host, once its board is open. If its driver judges, it may become self-managing, with the board that it opened, until a line
 -- that acts was taken. If it is self-managing, it has a policy.
 pub data Host : Type 0 where
-  Driven : Opened → (seed : Option ℕ) → Host
+  Driven : Opened → (board : Option BoardValue) → Host
   Kept : Keeping → Host
 
 -- What a line does: it leads to a host, once a board was opened, and a text is printed; or it is refused.
@@ -58,40 +58,44 @@ is_acting (Say v) = true
 is_acting (Keep rate listen) = true
 is_acting line = false
 
--- the seed with which it may become self-managing after a line
-abbrev pub seed_after : DriverLine → Option ℕ → Option ℕ
-seed_after line seed = if is_acting line then None else seed
+-- the board with which it may become self-managing after a line
+abbrev pub board_after : DriverLine → Option BoardValue → Option BoardValue
+board_after line board = if is_acting line then None else board
 
-abbrev pub driven_host : Option ℕ → Option Opened → Option Host
-driven_host seed None = None
-driven_host seed (Some host) = Some (Driven host seed)
+abbrev pub driven_host : Option BoardValue → Option Opened → Option Host
+driven_host board None = None
+driven_host board (Some host) = Some (Driven host board)
 
-abbrev pub as_driven : Option ℕ → Answer → Reply
-as_driven seed (gives next text) = prints (driven_host seed next) text
-as_driven seed (refuses e) = denies e
+abbrev pub as_driven : Option BoardValue → Answer → Reply
+as_driven board (gives next text) = prints (driven_host board next) text
+as_driven board (refuses e) = denies e
 
 -- From now on it is self-managing.
-abbrev pub begins : ℕ → ℕ → Opened → Option ℕ → Reply
+abbrev pub begins : ℕ → ℕ → Opened → Option BoardValue → Reply
 begins rate listen host None = denies refusals.TooLate
-begins rate listen host (Some seed) = prints (Some (Kept (record { host = host; policy = begun (present host) rate listen seed }))) []
+begins rate listen host (Some board) = prints (Some (Kept (record { host = host; policy = begun (present host) rate listen board.seed }))) []
 
 -- ---- a self-managing host
 
--- The number of a target is the sixth word of a drawing.
-abbrev pub wrong_target : FieldFault → Refusal
-wrong_target fault = refusals.Line (faults.Word (record { place = 6; fault = word_faults.Field fault }))
+-- A drawing that has its number now: its target, at this place among its words, is itself.
+abbrev pub wrong_target : ℕ → FieldFault → Refusal
+wrong_target place fault = refusals.Line (faults.Word (record { place = place; fault = word_faults.Field fault }))
 
--- Why a line is refused, by why its host refuses it. Of a moment it knows one fault.
-abbrev pub kept_refusal : KeptFault → Refusal
-kept_refusal (kept_faults.Host fault) = refusals.Line faults.BackInTime
-kept_refusal kept_faults.Listening = refusals.Listening
-kept_refusal kept_faults.Ours = refusals.Ours
-kept_refusal kept_faults.Numbers = refusals.Line faults.TooMany
-kept_refusal (kept_faults.Operation fault) = wrong_target fault
+-- Why a line is refused, by why its host refuses it, and by where the target of a drawing stands. Of a moment it knows one fault.
+abbrev pub kept_refusal : ℕ → KeptFault → Refusal
+kept_refusal place (kept_faults.Host fault) = refusals.Line faults.BackInTime
+kept_refusal place kept_faults.Listening = refusals.Listening
+kept_refusal place kept_faults.Ours = refusals.Ours
+kept_refusal place kept_faults.Numbers = refusals.Line faults.TooMany
+kept_refusal place (kept_faults.Operation fault) = wrong_target place fault
+
+-- where the target of a drawing stands whose time the driver tells
+abbrev pub timed_target : ℕ
+timed_target = 6
 
 -- It does what a transition says, and prints what that sends, and then a text; or it refuses the line.
 abbrev pub kept_does : Option KeptFault → Transition → List ℕ → Keeping → Reply
-kept_does (Some fault) does text k = denies (kept_refusal fault)
+kept_does (Some fault) does text k = denies (kept_refusal timed_target fault)
 kept_does None does text k = prints (Some (Kept (after_doing does k))) (sends_text (sent_by_doing does k) ++ text)
 
 -- a drawop that came in is a batch of its own
@@ -141,24 +145,24 @@ kept_reply line k = if is_acting line then denies refusals.Kept else kept_shows 
 
 -- ---- one line
 
--- the seed of the board that a line opens
-abbrev pub seed_in : DriverLine → Option ℕ
-seed_in (Script (lines.Board member cells workers seed)) = Some seed
-seed_in line = None
+-- the board that a line opens
+abbrev pub board_in : DriverLine → Option BoardValue
+board_in (Script (lines.Board member cells workers seed)) = Some (record { member = member; cells = cells; seed = seed })
+board_in line = None
 
 -- what a line does that does not begin to keep the host
 abbrev pub taken_by : DriverLine → Host → Reply
-taken_by line (Driven host seed) = as_driven (seed_after line seed) (answer_at line host)
+taken_by line (Driven host board) = as_driven (board_after line board) (answer_at line host)
 taken_by line (Kept k) = kept_reply line k
 
 abbrev pub taken_reply : Tuning → Option Host → DriverLine → Reply
-taken_reply tuning None line = as_driven (seed_in line) (answer_first tuning line)
+taken_reply tuning None line = as_driven (board_in line) (answer_first tuning line)
 taken_reply tuning (Some h) line = taken_by line h
 
 -- It becomes self-managing, if it may.
 abbrev pub keep_reply : ℕ → ℕ → Option Host → Reply
 keep_reply rate listen None = denies (refusals.Line faults.NoBoard)
-keep_reply rate listen (Some (Driven host seed)) = begins rate listen host seed
+keep_reply rate listen (Some (Driven host board)) = begins rate listen host board
 keep_reply rate listen (Some (Kept k)) = denies refusals.Kept
 
 abbrev pub reply_to : Tuning → Option Host → DriverLine → Reply
@@ -178,7 +182,7 @@ in_time moment = if nat_lt moment MOMENT_LIMIT then Some moment else None
 -- the next moment at which it has something to do
 abbrev pub due_at : Option Host → Option ℕ
 due_at None = None
-due_at (Some (Driven host seed)) = next_due host
+due_at (Some (Driven host board)) = next_due host
 due_at (Some (Kept k)) = in_time (kept_due k)
 
 -- what is printed for a line, and one line more, which closes it
@@ -203,10 +207,6 @@ reply_of s m = reply s.tuning s.host (says_line m)
 
 abbrev pub hosting_after : Hosting → Reply → Hosting
 hosting_after s r = record { tuning = s.tuning; host = host_after s.host r }
-
--- What is written for a line of the input is a block, whatever its number. No line stops a dialog.
-abbrev pub step : Hosting → ℕ → Met → Step Hosting Infallible
-step s number m = goes (block_of (reply_of s m)) (hosting_after s (reply_of s m))
 
 -- the blocks of lines, in their order, from a host on
 abbrev pub blocks_from : Hosting → List InputLine → List (List ℕ)

@@ -1,5 +1,5 @@
 -- Laws of the transcripts of a host.
-use Rattle.std.specs.Prelude.{◌≡◌, ◌<◌, ◌⊎◌, ℕ, List, [], ◌∷◌, ◌++◌, length, All, Bool, true, false, Option, Some, Result, Ok, if◌then◌else◌, codes}
+use Rattle.std.specs.Prelude.{◌≡◌, ◌<◌, ◌⊎◌, ℕ, List, [], ◌∷◌, ◌++◌, length, All, Bool, true, false, Option, Some, None, Result, Ok, if◌then◌else◌, codes}
 use Rattle.wb_names.specs.History.{IsHeld}
 use Rattle.wb_names.specs.Marks.{mark_of}
 use Rattle.wb_names.specs.declared.name.PageId.{PageId}
@@ -7,7 +7,8 @@ use Rattle.wb_recovery.specs.declared.tuning.Tuning.{Tuning}
 use Rattle.wb_codec.specs.declared.datagram.Datagram.{Datagram}
 use Rattle.wb_codec.specs.Ranges.{IsDatagram}
 use Rattle.wb_keeper.specs.Hearing.{marks_heard}
-use Rattle.wb_lines.specs.Input.{InputLine, BeginsWith, input_lines}
+use Rattle.wb_lines.specs.Input.{InputLine, BeginsWith, content, input_lines}
+use Rattle.wb_lines.specs.Handling.{Met, whole, too_long}
 use Rattle.wb_lines.specs.Taking.{met}
 use Rattle.wb_member.specs.Opened.{Opened, next_number}
 use Rattle.wb_commands.specs.SentLines.{digits_of}
@@ -19,12 +20,14 @@ use Rattle.wb_dialog.specs.Lines.{line_of}
 use Rattle.wb_dialog.specs.declared.line.DriverLine.{DriverLine}
 use Rattle.wb_dialog.specs.declared.line.DriverLine.TheVariants.{Keep}
 use Rattle.wb_dialog.specs.Dialog.{ok_line, refused_line, says_line, version_line, transcript as driven_transcript}
-use Rattle.wb_dialog.specs.Hosting.{Hosting, Reply, prints, denies, reply, reply_of, block_of, blocks_from, hosting_after, hosting_from, transcript}
+use Rattle.wb_dialog.specs.Hosting.{transcript as unjudged_transcript}
+use Rattle.wb_dialog.specs.JudgedLines.{judge_line_of}
+use Rattle.wb_dialog.specs.Kinds.{Standing, Response, answers, rejects, response_to, response_of, block_of, blocks_from, after, standing_from, transcript}
 
 -- A refused line leaves the host as it was: its block says why, and what follows it is answered as if it had not been there.
 abbrev pub RefusedStays : Type 0
-RefusedStays = (s : Hosting) (front rest : List InputLine) (line : InputLine) (e : Refusal) → reply_of (hosting_from s front) (met line) ≡ denies e
-    → (hosting_from s (front ++ line ∷ []) ≡ hosting_from s front) × (blocks_from s (front ++ line ∷ rest) ≡ blocks_from s front ++ refused_line e ∷ blocks_from (hosting_from s front) rest)
+RefusedStays = (s : Standing) (front rest : List InputLine) (line : InputLine) (e : Refusal) → response_of (standing_from s front) (met line) ≡ rejects e
+    → (standing_from s (front ++ line ∷ []) ≡ standing_from s front) × (blocks_from s (front ++ line ∷ rest) ≡ blocks_from s front ++ refused_line e ∷ blocks_from (standing_from s front) rest)
 
 -- ---- blocks
 
@@ -41,7 +44,7 @@ pub record IsBlock (bytes : List ℕ) : Type 0 where
 
 -- Every line is answered by exactly one block.
 abbrev pub EachIsAnswered : Type 0
-EachIsAnswered = (s : Hosting) (lines : List InputLine) → (length (blocks_from s lines) ≡ length lines) × All IsBlock (blocks_from s lines)
+EachIsAnswered = (s : Standing) (lines : List InputLine) → (length (blocks_from s lines) ≡ length lines) × All IsBlock (blocks_from s lines)
 
 -- ---- fronts
 
@@ -51,23 +54,34 @@ FrontsAreFronts = (tuning : Tuning) (cut : Bool) (front rest : List ℕ) → Beg
 
 -- ---- the accepted lines alone
 
-abbrev pub is_given : Reply → Bool
-is_given (prints s text) = true
-is_given (denies e) = false
+abbrev pub is_given : Response → Bool
+is_given (answers s text) = true
+is_given (rejects e) = false
 
 -- the lines that are not refused, from a state on
-abbrev pub accepted_lines : Hosting → List InputLine → List InputLine
+abbrev pub accepted_lines : Standing → List InputLine → List InputLine
 accepted_lines s [] = []
-accepted_lines s (line ∷ lines) = if is_given (reply_of s (met line)) then line ∷ accepted_lines (hosting_after s (reply_of s (met line))) lines else accepted_lines (hosting_after s (reply_of s (met line))) lines
+accepted_lines s (line ∷ lines) = if is_given (response_of s (met line)) then line ∷ accepted_lines (after s (response_of s (met line))) lines else accepted_lines (after s (response_of s (met line))) lines
 
 -- the blocks of the lines that are not refused
-abbrev pub accepted_blocks : Hosting → List InputLine → List (List ℕ)
+abbrev pub accepted_blocks : Standing → List InputLine → List (List ℕ)
 accepted_blocks s [] = []
-accepted_blocks s (line ∷ lines) = if is_given (reply_of s (met line)) then block_of (reply_of s (met line)) ∷ accepted_blocks (hosting_after s (reply_of s (met line))) lines else accepted_blocks (hosting_after s (reply_of s (met line))) lines
+accepted_blocks s (line ∷ lines) = if is_given (response_of s (met line)) then block_of (response_of s (met line)) ∷ accepted_blocks (after s (response_of s (met line))) lines else accepted_blocks (after s (response_of s (met line))) lines
 
 -- The accepted lines alone give the same blocks as they do among all lines, and lead to the same host.
 abbrev pub AcceptedAlone : Type 0
-AcceptedAlone = (s : Hosting) (lines : List InputLine) → (blocks_from s (accepted_lines s lines) ≡ accepted_blocks s lines) × (hosting_from s (accepted_lines s lines) ≡ hosting_from s lines)
+AcceptedAlone = (s : Standing) (lines : List InputLine) → (blocks_from s (accepted_lines s lines) ≡ accepted_blocks s lines) × (standing_from s (accepted_lines s lines) ≡ standing_from s lines)
+
+-- ---- a host that is never judged
+
+-- a line whose first word is not `judge`
+abbrev pub BeginsNoJudge : Met → Type 0
+BeginsNoJudge (whole line) = judge_line_of (content line) ≡ None
+BeginsNoJudge too_long = Unit {0}
+
+-- If no line of an input says `judge`, what is written is what a host writes that knows no judge.
+abbrev pub UnjudgedAsBefore : Type 0
+UnjudgedAsBefore = (tuning : Tuning) (cut : Bool) (input : List ℕ) → All (λ line. BeginsNoJudge (met line)) (input_lines input) → transcript tuning cut input ≡ unjudged_transcript tuning cut input
 
 -- ---- a host that never becomes self-managing
 
@@ -76,9 +90,9 @@ abbrev pub BeginsNoKeep : Result DriverLine Refusal → Type 0
 BeginsNoKeep (Ok (Keep rate listen)) = ⊥
 BeginsNoKeep said = Unit {0}
 
--- If no line of an input says `keep`, what is written is what a host writes that its driver drives, whose definition knows no policy.
+-- If no line of an input says `keep`, what such a host writes is what one writes that its driver drives, whose definition knows no policy.
 abbrev pub DrivenAsBefore : Type 0
-DrivenAsBefore = (tuning : Tuning) (cut : Bool) (input : List ℕ) → All (λ line. BeginsNoKeep (says_line (met line))) (input_lines input) → transcript tuning cut input ≡ driven_transcript tuning cut input
+DrivenAsBefore = (tuning : Tuning) (cut : Bool) (input : List ℕ) → All (λ line. BeginsNoKeep (says_line (met line))) (input_lines input) → unjudged_transcript tuning cut input ≡ driven_transcript tuning cut input
 
 -- ---- what is ours
 
@@ -95,7 +109,7 @@ SaidIsRead = (v : Datagram) → IsDatagram v → line_of (codes "datagram " ++ d
 
 -- `version` prints it at every host, also before a board is open, and changes nothing.
 abbrev pub VersionIsTold : Type 0
-VersionIsTold = (s : Hosting) → reply s.tuning s.host (line_of (codes "version")) ≡ prints s.host version_line
+VersionIsTold = (s : Standing) → response_to s.tuning s.kind (codes "version") ≡ answers s.kind version_line
 
 -- ---- what a script says
 

@@ -1,7 +1,17 @@
+pub mod Boards
 pub mod Refusals
 pub mod Lines
+pub mod Words
+pub mod Records
+pub mod JudgedLines
 pub mod Dialog
 pub mod Hosting
+pub mod Texts
+pub mod Listing
+pub mod Judged
+pub mod Kinds
 pub mod Doing
 pub mod Laws
 pub mod KeptLaws
+pub mod JudgedLaws
+pub mod RecordLaws

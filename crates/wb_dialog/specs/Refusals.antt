@@ -15,6 +15,8 @@ refusal_text refusals.Kept = codes "kept"
 refusal_text refusals.TooLate = codes "too late"
 refusal_text refusals.Listening = codes "listening"
 refusal_text refusals.Ours = codes "ours"
+refusal_text refusals.Twin = codes "twin"
+refusal_text refusals.Full = codes "full"
 
 abbrev pub host_text : HostFault → List ℕ
 host_text host_faults.Read = codes "read"

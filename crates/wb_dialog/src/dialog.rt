@@ -1,12 +1,19 @@
 //! A host as a handler of the lines of a driver: each line has its block.
-ghost use Rattle.std.specs.Prelude.{◌≡◌, ◌≤◌, [], None, Option, Err, true};
+ghost use Rattle.std.specs.Prelude.{◌≡◌, [], None, Ok, Some, true, is_some};
 ghost use Rattle.wb_recovery.specs.Timing.{are_constants};
+ghost use Rattle.wb_keeping.specs.Performing.{KeptValue};
+ghost use Rattle.wb_judging.specs.Performing.{JudgedValue};
+ghost use Rattle.wb_dialog.specs.JudgedLines.{IsJudgeLine};
+ghost use Rattle.wb_dialog.specs.Kinds.{Kind, due_of, judge_response, line_response, rejects, response_to};
 ghost use Rattle.wb_dialog.specs.Lines.{IsWithin, line_of};
-ghost use Rattle.wb_dialog.specs.Hosting.{Host as HostState, due_at, keep_reply, reply, reply_to, taken_reply};
-ghost use Rattle.wb_dialog.specs.Doing.{Adds, BlocksAt, DoesHost, DoesReply, MayBeAt, host_of, kept_in};
+ghost use Rattle.wb_dialog.specs.Hosting.{reply, reply_to};
+ghost use Rattle.wb_dialog.specs.Doing.{Adds, BlocksAt, DoesReply, IsKindAt, LeadsFrom, judged_in, kept_in, with_kept, with_member};
 
 use crate::blocks::{print_ok, print_version, refused_line};
+use crate::board::Board;
 use crate::fault::{Refusal, Unanswered};
+use crate::judged_line::JudgeLine;
+use crate::judged_parsing::read_judge;
 use crate::line::DriverLine;
 use crate::opened::Host;
 use crate::parsing::read_line;
@@ -14,6 +21,7 @@ use std::alloc::{AllocError, Global};
 use std::convert::Infallible;
 use std::marker::Model;
 use wb_commands::{Command, LineFault};
+use wb_judging::JudgedMember;
 use wb_keeping::KeptMember;
 use wb_lines::{Handler, Output, Stop, without_end};
 use wb_recovery::Tuning;
@@ -23,6 +31,7 @@ use wb_recovery::Tuning;
 #[derive(Drop)]
 pub struct Dialog {
     tuning: Tuning,
+    /// None if no board is open.
     host: Option<Host>,
 }
 
@@ -50,8 +59,9 @@ impl Dialog {
 
     /// The next moment at which the host has something to do, in microseconds. None if there is
     /// none.
+    #[tactic(auto, using(crate::proofs::EachKind::due_closed))]
     pub fn next_due(&self) -> Option<u64>
-        ensures { (s : Option HostState) → MayBeAt self.now.host s → result ≡ due_at s }
+        ensures { (s : Kind) → IsKindAt self.now.host s → result ≡ due_of s }
     {
         match &self.host {
             Some(host) => host.next_due(),
@@ -59,29 +69,77 @@ impl Dialog {
         }
     }
 
-    /// Takes the member out of a self-managing host, for calls of its own. It is put back by
-    /// `put_kept` before this dialog gets another line, which would find no board open. None if the
-    /// host is not self-managing.
+    /// Whether it is judged.
+    pub fn is_judged(&self) -> bool
+        ensures { result ≡ is_some (judged_in self.now.host) }
+    {
+        matches!(self.host, Some(Host::Judged(_)))
+    }
+
+    /// Takes the member out of a self-managing host that is not judged, for calls of its own. It is
+    /// put back by `put_kept` before this dialog gets another line, which would find no board open.
+    /// None if the host is another.
     pub fn take_kept(&mut self) -> Option<KeptMember>
         ensures kept { result ≡ kept_in self.old.host }
-        ensures tuning { self.new.tuning ≡ self.old.tuning }
+        ensures some { (kept : KeptValue) → result ≡ Some kept →
+            with_kept kept self.new ≡ self.old }
         ensures none { result ≡ None → self.new ≡ self.old }
     {
         match self.host.take() {
             Some(Host::Kept(kept)) => Some(kept),
-            Some(Host::Driven { member, seed }) => {
-                self.host = Some(Host::Driven { member, seed });
+            Some(Host::Driven { member, board }) => {
+                self.put(Host::Driven { member, board });
+                None
+            }
+            Some(Host::Judged(member)) => {
+                self.put(Host::Judged(member));
                 None
             }
             None => None,
         }
     }
 
+    /// From now on this is the host. What was there is dropped here alone.
+    fn put(&mut self, host: Host)
+        ensures { self.new ≡ record { tuning = self.old.tuning; host = Some host } }
+    {
+        self.host = Some(host);
+    }
+
     /// From now on this self-managing member is the host.
     pub fn put_kept(&mut self, kept: KeptMember)
-        ensures { self.new ≡ record { tuning = self.old.tuning; host = host_of kept } }
+        ensures { self.new ≡ with_kept kept self.old }
     {
-        self.host = Some(Host::Kept(kept));
+        self.put(Host::Kept(kept));
+    }
+
+    /// Takes the member out of a judged host, for calls of its own. It is put back by `put_member`
+    /// before this dialog gets another line, which would find no board open. None if the host is
+    /// not judged.
+    pub fn take_member(&mut self) -> Option<JudgedMember>
+        ensures member { result ≡ judged_in self.old.host }
+        ensures some { (m : JudgedValue) → result ≡ Some m → with_member m self.new ≡ self.old }
+        ensures none { result ≡ None → self.new ≡ self.old }
+    {
+        match self.host.take() {
+            Some(Host::Judged(member)) => Some(member),
+            Some(Host::Driven { member, board }) => {
+                self.put(Host::Driven { member, board });
+                None
+            }
+            Some(Host::Kept(kept)) => {
+                self.put(Host::Kept(kept));
+                None
+            }
+            None => None,
+        }
+    }
+
+    /// From now on this judged member is the host.
+    pub fn put_member(&mut self, member: JudgedMember)
+        ensures { self.new ≡ with_member member self.old }
+    {
+        self.put(Host::Judged(member));
     }
 
     /// What a line does before a board is open.
@@ -95,7 +153,7 @@ impl Dialog {
         requires closed { self.old.host ≡ None }
         ensures text { Adds output.old output.new (λ written.
             DoesReply None self.new.host written result
-            (taken_reply self.old.tuning None line.now)) }
+            (reply_to self.old.tuning None line.now)) }
         ensures tuning { self.new.tuning ≡ self.old.tuning }
     {
         match line {
@@ -108,7 +166,9 @@ impl Dialog {
                     ..
                 },
             ) => {
-                self.host = Some(Host::open(alloc, *member, *cells, *seed, self.tuning)?);
+                let board = Board::new(*member, *cells, *seed);
+                let host = Host::open(alloc, board, self.tuning)?;
+                self.put(host);
                 Ok(())
             }
             DriverLine::Version => {
@@ -119,45 +179,79 @@ impl Dialog {
         }
     }
 
-    /// From now on the host is self-managing, if it may be.
-    fn keep(&mut self, rate: u32, listen: u32) -> Result<(), Unanswered>
-        requires rate { 1 ≤ rate }
-        ensures does { DoesHost self.old.host self.new.host [] result (keep_reply rate listen) }
+    /// The same, by its bytes.
+    fn take_first(
+        &mut self,
+        alloc: Global,
+        content: &[u8],
+        output: &mut Output,
+    ) -> Result<(), Unanswered>
+        requires { self.old.host ≡ None }
+        ensures text { Adds output.old output.new (λ written.
+            DoesReply None self.new.host written result
+            (reply self.old.tuning None (line_of content.now))) }
+        ensures tuning { self.new.tuning ≡ self.old.tuning }
+    {
+        let line = read_line(alloc, content)?;
+        self.begin(alloc, &line, output)
+    }
+
+    /// From now on the host is judged, if it may be.
+    #[tactic(auto, using(crate::proofs::EachKind::is_closed))]
+    fn judge(&mut self, alloc: Global, line: JudgeLine) -> Result<(), Unanswered>
+        requires { IsJudgeLine line }
+        ensures does { LeadsFrom self.old.host self.new.host [] result
+            (judge_response self.old.tuning line) }
         ensures tuning { self.new.tuning ≡ self.old.tuning }
     {
         let Some(host) = self.host.take() else {
             return Err(Unanswered::Refused(Refusal::Line(LineFault::NoBoard)));
         };
-        let (next, result) = host.keep(rate, listen);
-        self.host = Some(next);
+        let (next, result) = host.judge(alloc, self.tuning, line);
+        self.put(next);
         result
     }
 
-    /// What a line does.
-    fn take(
+    /// What a line does that does not begin to judge.
+    #[tactic(auto, using(crate::proofs::EachKind::leads_first))]
+    fn take_line(
         &mut self,
         alloc: Global,
-        line: &DriverLine,
+        content: &[u8],
         output: &mut Output,
     ) -> Result<(), Unanswered>
-        requires { IsWithin line.now }
         ensures text { Adds output.old output.new (λ written.
-            DoesHost self.old.host self.new.host written result
-            (λ s. reply_to self.old.tuning s line.now)) }
+            LeadsFrom self.old.host self.new.host written result
+            (λ s. line_response self.old.tuning s content.now)) }
         ensures tuning { self.new.tuning ≡ self.old.tuning }
     {
-        if let DriverLine::Keep { rate, listen } = line {
-            return self.keep(*rate, *listen);
-        }
-        match &mut self.host {
-            Some(host) => host.take(alloc, line, output),
-            None => self.begin(alloc, line, output),
+        let Some(host) = self.host.take() else {
+            return self.take_first(alloc, content, output);
+        };
+        let (next, result) = host.take(alloc, content, output);
+        self.put(next);
+        result
+    }
+
+    /// What a line does. If an allocation fails, nothing is promised of what is left: the host is
+    /// given up.
+    #[tactic(auto, using(crate::proofs::EachKind::begins_not, crate::proofs::EachKind::begins, crate::proofs::EachKind::unread))]
+    fn act(&mut self, alloc: Global, content: &[u8], output: &mut Output) -> Result<(), Unanswered>
+        ensures text { Adds output.old output.new (λ written.
+            LeadsFrom self.old.host self.new.host written result
+            (λ s. response_to self.old.tuning s content.now)) }
+        ensures tuning { self.new.tuning ≡ self.old.tuning }
+    {
+        match read_judge(content) {
+            None => self.take_line(alloc, content, output),
+            Some(Ok(line)) => self.judge(alloc, line),
+            Some(Err(fault)) => Err(Unanswered::Refused(Refusal::Line(fault))),
         }
     }
 
     /// Prints the block of a line, which stands without its end: what it prints, and `ok DUE`; or,
-    /// if the line is refused, `refused FAULT`, and nothing changes. If memory runs out, a front of
-    /// the block is printed, and the host is to be given up.
+    /// if the line is refused, `refused FAULT`, and nothing changes. If an allocation fails, nothing
+    /// is promised of what is left: the host is given up. A front of the block is printed then.
     pub fn answer(
         &mut self,
         alloc: Global,
@@ -166,15 +260,10 @@ impl Dialog {
     ) -> Result<(), AllocError>
         ensures text { Adds output.old output.new (λ written.
             BlocksAt self.old.host self.new.host written result
-            (λ s. reply self.old.tuning s (line_of content.now))) }
+            (λ s. response_to self.old.tuning s content.now)) }
         ensures tuning { self.new.tuning ≡ self.old.tuning }
     {
-        let line = match read_line(alloc, content) {
-            Ok(line) => line,
-            Err(Unanswered::Refused(refusal)) => return self.refuse(alloc, refusal, output),
-            Err(Unanswered::Memory) => return Err(AllocError),
-        };
-        match self.take(alloc, &line, output) {
+        match self.act(alloc, content, output) {
             Ok(()) => print_ok(self.next_due(), output),
             Err(Unanswered::Refused(refusal)) => self.refuse(alloc, refusal, output),
             Err(Unanswered::Memory) => Err(AllocError),
@@ -190,8 +279,7 @@ impl Dialog {
     ) -> Result<(), AllocError>
         ensures same { self.new ≡ self.old }
         ensures text { Adds output.old output.new (λ written.
-            BlocksAt self.old.host self.new.host written result
-            (λ s. reply self.old.tuning s (Err refusal))) }
+            BlocksAt self.old.host self.new.host written result (λ s. rejects refusal)) }
     {
         let text = refused_line(alloc, refusal)?;
         output.add(text.as_bytes())
@@ -202,15 +290,16 @@ impl Dialog {
 impl Handler for Dialog {
     type Fault = Infallible;
 
-    ghost use Rattle.wb_dialog.specs.Hosting.{Hosting, step};
+    ghost use Rattle.wb_dialog.specs.Kinds.{Standing, step};
     ghost use Rattle.wb_dialog.specs.Doing.{IsAt};
 
-    ghost State = { Hosting };
+    ghost State = { Standing };
 
     ghost is_at = { IsAt };
 
     ghost step = { step };
 
+    #[tactic(auto, unfolding(crate::specs::Kinds::step))]
     fn take(
         &mut self,
         alloc: Global,
@@ -223,6 +312,7 @@ impl Handler for Dialog {
         Ok(())
     }
 
+    #[tactic(auto, unfolding(crate::specs::Kinds::step))]
     fn take_too_long(
         &mut self,
         alloc: Global,

@@ -1,11 +1,17 @@
 //! Why a line of a driver is refused, and why a host stops.
 ghost use Rattle.std.specs.Prelude.{◌≡◌};
+ghost use Rattle.wb_dialog.specs.Doing.{unanswered_of};
+ghost use Rattle.wb_dialog.specs.Hosting.{wrong_target};
 ghost use Rattle.wb_dialog.specs.declared.fault.Unanswered.TheVariants as unanswered;
 ghost use Rattle.wb_dialog.specs.declared.fault.Refusal.TheVariants as refusals;
 
 use std::alloc::{AllocError, AllocFailed};
 use std::{error, fmt};
 use wb_commands::LineFault;
+use wb_keeper::KeepFault;
+use wb_keeping::KeptFault;
+use wb_names::FieldFault;
+use wb_words::{WordFault, WrongWord};
 
 /// Why a line of a driver is refused.
 #[derive(Clone, Copy, Debug, PartialEq, Eq)]
@@ -28,6 +34,10 @@ pub enum Refusal {
     Listening,
     /// A drawop of ours that is not held, with a number of 2^31 or more.
     Ours,
+    /// Nothing is drawn, since somebody has our number too.
+    Twin,
+    /// Nothing is drawn, since the board has no cell for a drawing.
+    Full,
 }
 
 impl fmt::Display for Refusal {
@@ -46,6 +56,8 @@ impl fmt::Display for Refusal {
             Refusal::TooLate => f.write_str("too late"),
             Refusal::Listening => f.write_str("listening"),
             Refusal::Ours => f.write_str("ours"),
+            Refusal::Twin => f.write_str("twin"),
+            Refusal::Full => f.write_str("full"),
         }
     }
 }
@@ -90,6 +102,29 @@ impl<T: Drop> From<AllocFailed<T>> for Unanswered {
 
     fn from(_error: AllocFailed<T>) -> Unanswered {
         Unanswered::Memory
+    }
+}
+
+/// A fault of a drawing that has its number now: its target, at this place among its words, is
+/// itself.
+fn wrong_target(place: u32, fault: FieldFault) -> Refusal
+    ensures { result ≡ wrong_target place fault }
+{
+    let fault = WordFault::Field(fault);
+    Refusal::Line(LineFault::Word(WrongWord { place, fault }))
+}
+
+/// Why a self-managing host does not do a line. `place` is that of the target of a drawing.
+pub(crate) fn refused_by_kept(place: u32, fault: KeptFault) -> Unanswered
+    ensures { result ≡ unanswered_of place fault }
+{
+    match fault {
+        KeptFault::Host(KeepFault::Memory) => Unanswered::Memory,
+        KeptFault::Host(_) => Unanswered::Refused(Refusal::Line(LineFault::BackInTime)),
+        KeptFault::Listening => Unanswered::Refused(Refusal::Listening),
+        KeptFault::Ours => Unanswered::Refused(Refusal::Ours),
+        KeptFault::Numbers => Unanswered::Refused(Refusal::Line(LineFault::TooMany)),
+        KeptFault::Operation(fault) => Unanswered::Refused(wrong_target(place, fault)),
     }
 }
 

@@ -1,10 +1,11 @@
 //! A host from the lines of its driver to the blocks that it writes.
-ghost use Rattle.std.specs.Prelude.{◌≡◌, ◌^◌, ◌-◌, List, ℕ, true, false, Err, OnOk};
+ghost use Rattle.std.specs.Prelude.{◌≡◌, ◌^◌, ◌-◌, List, ℕ, None, true, false, Err, OnOk};
 ghost use Rattle.std.specs.Io.KnownBytes.{Appends};
 ghost use Rattle.wb_recovery.specs.Timing.{are_constants};
 ghost use Rattle.wb_lines.specs.Driving.{Gave};
 ghost use Rattle.wb_lines.specs.Input.{input_lines};
-ghost use Rattle.wb_dialog.specs.Hosting.{transcript, IsEndless};
+ghost use Rattle.wb_dialog.specs.Hosting.{IsEndless};
+ghost use Rattle.wb_dialog.specs.Kinds.{transcript};
 ghost use Rattle.wb_dialog.specs.Doing.{fault_of, Writes};
 
 use crate::dialog::Dialog;
@@ -25,6 +26,30 @@ fn fault_of(fault: DriveFault<Infallible>) -> HostFault
         DriveFault::Write => HostFault::Write,
         DriveFault::Memory => HostFault::Memory,
         DriveFault::Endless => HostFault::Endless,
+    }
+}
+
+/// Writes to a sink what a dialog without an open board answers to the lines that a source has
+/// left. It stands apart from `host`, since the check of both as one function does not end.
+fn answer_all<R: Source, W: Sink>(
+    alloc: Global,
+    dialog: &mut Dialog,
+    source: &mut R,
+    sink: &mut W,
+) -> Result<(), HostFault>
+    requires { dialog.old.host ≡ None }
+    ensures text { (input : List ℕ) × (written : List ℕ)
+        × Gave (R.left source.old) (R.left source.new) (R.has_failed source.new) input
+        × Appends (W.taken sink.old) (W.taken sink.new) written
+        × Writes (transcript dialog.old.tuning (R.has_failed source.new) input) written result
+        × (result ≡ Err HostFault.Endless → IsEndless (2 ^ 64 - 1) (input_lines input)) }
+    ensures whole { OnOk result (R.has_failed source.new ≡ false) }
+    ensures read { result ≡ Err HostFault.Read → R.has_failed source.new ≡ true }
+    ensures write { result ≡ Err HostFault.Write → W.has_failed sink.new ≡ true }
+{
+    match drive(alloc, u64::MAX, dialog, source, sink) {
+        Ok(_) => Ok(()),
+        Err(fault) => Err(fault_of(fault)),
     }
 }
 
@@ -51,8 +76,5 @@ pub fn host<R: Source, W: Sink>(
     ensures write { result ≡ Err HostFault.Write → W.has_failed sink.new ≡ true }
 {
     let mut dialog = Dialog::new(tuning);
-    match drive(alloc, u64::MAX, &mut dialog, source, sink) {
-        Ok(_) => Ok(()),
-        Err(fault) => Err(fault_of(fault)),
-    }
+    answer_all(alloc, &mut dialog, source, sink)
 }

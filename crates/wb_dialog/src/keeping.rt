@@ -4,55 +4,32 @@ ghost use Rattle.wb_names.specs.Moments.{IsMoment};
 ghost use Rattle.wb_member.specs.Holding.{outcome_in};
 ghost use Rattle.wb_member.specs.Questions.{IsAnswerable};
 ghost use Rattle.wb_commands.specs.SentLines.{sends_text};
-ghost use Rattle.wb_dialog.specs.Doing.{DoesKept, Tells, unanswered_of, Adds};
+ghost use Rattle.wb_dialog.specs.Doing.{Adds, DoesKept, LeadsOpen, Tells};
 ghost use Rattle.wb_recovery.specs.Timing.{are_constants};
 ghost use Rattle.wb_keeping.specs.Calls.{IsWithin as IsWithinKept, line_of};
-ghost use Rattle.wb_dialog.specs.Hosting.{kept_adds, kept_batch, kept_performs, kept_reply, kept_tunes, unsent_text, wrong_target};
-ghost use Rattle.wb_dialog.specs.Lines.{IsWithin};
+ghost use Rattle.wb_dialog.specs.Hosting.{kept_adds, kept_batch, kept_performs, kept_reply, kept_tunes, unsent_text};
+ghost use Rattle.wb_dialog.specs.Kinds.{line_response, said_reply};
+ghost use Rattle.wb_dialog.specs.Lines.{IsWithin, line_of as driver_line_of};
+ghost use Rattle.wb_dialog.specs.declared.opened.Host.TheVariants as values;
 
 use crate::blocks::print_version;
-use crate::fault::{Refusal, Unanswered};
+use crate::fault::{Refusal, Unanswered, refused_by_kept};
 use crate::line::DriverLine;
-use crate::parsing::refused as untaken;
+use crate::opened::Host;
+use crate::parsing::{read_line, refused};
 use std::alloc::Global;
 use wb_board::Reply;
 use wb_codec::Datagram;
 use wb_commands::{Command, LineFault, arrival_line, print, print_sends};
-use wb_keeper::KeepFault;
-use wb_keeping::{KeptCall, KeptDone, KeptFault, KeptMember};
+use wb_keeping::{KeptCall, KeptDone, KeptMember};
 use wb_lines::Output;
 use wb_member::{Call, Query};
-use wb_names::{FieldFault, shape_of};
+use wb_names::shape_of;
 use wb_recovery::Tuning;
-use wb_words::{Adding, WordFault, WrongWord};
+use wb_words::Adding;
 
 /// Where the number of its target stands among the words of a drawing.
 const TARGET: u32 = 6;
-
-/// A fault of a drawing that has its number now: its target is itself.
-fn wrong_target(fault: FieldFault) -> Refusal
-    ensures { result ≡ wrong_target fault }
-{
-    let fault = WordFault::Field(fault);
-    Refusal::Line(LineFault::Word(WrongWord {
-        place: TARGET,
-        fault,
-    }))
-}
-
-/// Why a self-managing host does not do a line.
-fn refused(fault: KeptFault) -> Unanswered
-    ensures { result ≡ unanswered_of fault }
-{
-    match fault {
-        KeptFault::Host(KeepFault::Memory) => Unanswered::Memory,
-        KeptFault::Host(_) => Unanswered::Refused(Refusal::Line(LineFault::BackInTime)),
-        KeptFault::Listening => Unanswered::Refused(Refusal::Listening),
-        KeptFault::Ours => Unanswered::Refused(Refusal::Ours),
-        KeptFault::Numbers => Unanswered::Refused(Refusal::Line(LineFault::TooMany)),
-        KeptFault::Operation(fault) => Unanswered::Refused(wrong_target(fault)),
-    }
-}
 
 /// Prints what is sent, and then a text. If an allocation fails, it prints a front of that.
 fn tell(
@@ -110,7 +87,7 @@ fn perform(
 {
     match kept.call(alloc, call) {
         Ok(KeptDone { sent, became }) => tell(alloc, &sent, batch(call, became), output),
-        Err(fault) => Err(refused(fault)),
+        Err(fault) => Err(refused_by_kept(TARGET, fault)),
     }
 }
 
@@ -163,7 +140,7 @@ fn ask(
     let answer = kept.answer(alloc, query)?;
     match print(alloc, &answer, output) {
         Ok(()) => Ok(()),
-        Err(fault) => Err(untaken(fault)),
+        Err(fault) => Err(refused(fault)),
     }
 }
 
@@ -178,7 +155,7 @@ fn version(kept: &mut KeptMember, output: &mut Output) -> Result<(), Unanswered>
 
 /// What a line does at a self-managing host: it prints, or it is refused, and then the host stays
 /// as it is. Some lines are no longer its driver's to judge.
-pub(crate) fn answer_kept(
+fn answer_kept(
     alloc: Global,
     kept: &mut KeptMember,
     line: &DriverLine,
@@ -208,4 +185,33 @@ pub(crate) fn answer_kept(
         DriverLine::Version => version(kept, output),
         _ => Err(Unanswered::Refused(Refusal::Kept)),
     }
+}
+
+/// The same, by its bytes.
+pub(crate) fn answer_said(
+    alloc: Global,
+    kept: &mut KeptMember,
+    content: &[u8],
+    output: &mut Output,
+) -> Result<(), Unanswered>
+    ensures text { Adds output.old output.new (λ written. DoesKept kept.old kept.new written result
+        (said_reply (driver_line_of content.now))) }
+{
+    let line = read_line(alloc, content)?;
+    answer_kept(alloc, kept, &line, output)
+}
+
+/// What a line does at a host that is self-managing and not judged.
+#[tactic(auto, using(crate::proofs::EachKind::leads_kept))]
+pub(crate) fn take_kept(
+    alloc: Global,
+    mut kept: KeptMember,
+    content: &[u8],
+    output: &mut Output,
+) -> (Host, Result<(), Unanswered>)
+    ensures text { Adds output.old output.new (λ written. LeadsOpen (values.Kept kept) result.0
+        written result.1 (λ tuning s. line_response tuning s content.now)) }
+{
+    let result = answer_said(alloc, &mut kept, content, output);
+    (Host::Kept(kept), result)
 }

@@ -2,8 +2,10 @@
 //! here for its clause.
 ghost use Rattle.std.specs.Prelude.{◌≡◌};
 ghost use Rattle.wb_dialog.specs.declared.line.TheConstants.{LINES_VERSION};
+ghost use Rattle.wb_dialog.specs.JudgedLaws.{JudgedIsKept, RecordBeforeSend};
 ghost use Rattle.wb_dialog.specs.KeptLaws.{AddIsNotTooMany, KeptIsDriven};
-ghost use Rattle.wb_dialog.specs.Laws.{RefusedStays, EachIsAnswered, FrontsAreFronts, AcceptedAlone, DrivenAsBefore, NextIsNew, SaidIsRead, ScriptLinesAreRead, VersionIsTold};
+ghost use Rattle.wb_dialog.specs.Laws.{RefusedStays, EachIsAnswered, FrontsAreFronts, AcceptedAlone, DrivenAsBefore, NextIsNew, SaidIsRead, ScriptLinesAreRead, UnjudgedAsBefore, VersionIsTold};
+ghost use Rattle.wb_dialog.specs.RecordLaws.{RecordsAreRead};
 
 /// A refused line leaves the host as it was.
 pub fn refused_lines_change_nothing()
@@ -25,8 +27,13 @@ pub fn accepted_lines_suffice()
     ensures { AcceptedAlone }
 {}
 
-/// What is written for lines of which none says `keep` is what a host writes that its driver
-/// drives.
+/// What is written for lines of which none says `judge` is what a host writes that knows no judge.
+pub fn unjudged_hosts_stay()
+    ensures { UnjudgedAsBefore }
+{}
+
+/// What such a host writes for lines of which none says `keep` is what a host writes that its
+/// driver drives.
 pub fn driven_hosts_stay()
     ensures { DrivenAsBefore }
 {}
@@ -66,4 +73,21 @@ pub fn lines_version()
 /// A line that a script takes is read the same by a host.
 pub fn script_lines_are_read()
     ensures { ScriptLinesAreRead }
+{}
+
+/// In each block of a judged host all that is to be recorded stands before all that is to be sent.
+pub fn records_stand_before_sends()
+    ensures { RecordBeforeSend }
+{}
+
+/// A judged host is a self-managing host that is handed one line in the place of each: the same, or
+/// a tick. It comes to the same, and sends the same, but for an echo that a report has besides.
+pub fn judged_hosts_are_kept()
+    ensures { JudgedIsKept }
+{}
+
+/// What is printed after the word `record` is, after the word `held`, read as the same line of the
+/// record.
+pub fn records_are_read()
+    ensures { RecordsAreRead }
 {}

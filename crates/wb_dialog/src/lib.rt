@@ -4,21 +4,46 @@
 //! script, the datagrams that came in, what it wants to say, and what it asks of the host. Each
 //! line is answered by one block: what it prints, and then `ok DUE` with the next moment at which a
 //! timer is due, or `refused FAULT`. A refused line changes nothing. This crate has no clock, no
-//! socket and no thread.
+//! socket, no file and no thread.
+//!
+//! A host is closed until its board is open, and then driven: its driver decides what is sent. A
+//! line makes it self-managing, or judged: from then on it decides for itself, and if it is judged,
+//! also which datagrams it takes, by their origins.
+//!
+//! In reading order: `line` has the lines of any host, and `judged_line` those of a judged one
+//! besides; `words`, `parsing`, `recorded` and `judged_parsing` read them, and `fault` says why one
+//! is refused. `answering`, `keeping` and `judged_answering` do what a line says at a member;
+//! `blocks`, `record_text` and `texts` print. `board` is what a host keeps until it begins to be
+//! kept or judged (`beginning`). `opened` has the three kinds of an open host: `driving`, `keeping`
+//! and `judged` say what a line does at each. `dialog` joins them into a handler of lines, and
+//! `hosting` runs it. `laws` says what follows.
 #![tactic(auto)]
 
 mod answering;
+mod beginning;
 mod blocks;
+mod board;
 mod dialog;
+mod driving;
 mod fault;
 mod hosting;
+mod judged;
+mod judged_answering;
+mod judged_line;
+mod judged_parsing;
 mod keeping;
 pub mod laws;
 mod line;
 mod opened;
 mod parsing;
+mod record_text;
+mod recorded;
+mod texts;
+mod words;
 
 pub use dialog::Dialog;
 pub use fault::{HostFault, Refusal};
 pub use hosting::host;
+pub use judged_line::{JudgeLine, JudgedLine};
 pub use line::{DriverLine, LINES_VERSION};
+pub use record_text::write_record;

@@ -1,81 +1,39 @@
-//! A host once its board is open: what a line does there.
-ghost use Rattle.std.specs.Prelude.{◌≡◌, ◌≤◌, ◌<◌, [], None, Some, Option, true, IfOk};
-ghost use Rattle.wb_board.specs.Counts.{IsCellCount};
+//! A host once its board is open.
+ghost use Rattle.std.specs.Prelude.{◌≡◌, [], Option, Some, true, IfOk};
 ghost use Rattle.wb_recovery.specs.Timing.{are_constants};
 ghost use Rattle.wb_member.specs.Opened.{opened_with};
-ghost use Rattle.wb_dialog.specs.Doing.{Adds, DoesOpen, IsHostAt};
-ghost use Rattle.wb_dialog.specs.Hosting.{Driven, Host as HostState, acts_in_script, due_at, in_time, is_acting, keep_reply, taken_by};
-ghost use Rattle.wb_dialog.specs.Lines.{IsWithin};
-ghost use Rattle.wb_dialog.specs.declared.opened.Host.TheVariants as values;
+ghost use Rattle.wb_dialog.specs.Doing.{Adds, IsHostAt, IsKindAt, LeadsFrom, LeadsOpen};
+ghost use Rattle.wb_dialog.specs.Hosting.{Driven, in_time};
+ghost use Rattle.wb_dialog.specs.JudgedLines.{IsJudgeLine};
+ghost use Rattle.wb_dialog.specs.Kinds.{Kind, due_of, judge_response, line_response};
 
-use crate::answering::answer;
+use crate::board::Board;
+use crate::driving::take_driven;
 use crate::fault::{Refusal, Unanswered};
-use crate::keeping::answer_kept;
-use crate::line::DriverLine;
+use crate::judged::{begin_to_judge, take_judged};
+use crate::judged_line::JudgeLine;
+use crate::keeping::take_kept;
 use std::alloc::{AllocError, Global};
-use wb_commands::Command;
+use wb_judging::JudgedMember;
 use wb_keeping::KeptMember;
 use wb_lines::Output;
-use wb_member::{Call, Member};
+use wb_member::Member;
 use wb_names::MOMENT_LIMIT;
 use wb_recovery::Tuning;
 
 /// A host, once its board is open.
 #[derive(Drop)]
 pub(crate) enum Host {
-    /// Its driver judges. It may become self-managing, with the seed of its board, until a line
-    /// that acts was taken.
-    Driven { member: Member, seed: Option<u64> },
+    /// Its driver judges. It may become self-managing or judged, with the board that it opened,
+    /// until a line that acts was taken.
+    Driven {
+        member: Member,
+        board: Option<Board>,
+    },
     /// It is self-managing.
     Kept(KeptMember),
-}
-
-/// Whether a line of a script acts on its host.
-fn acts_in_script(line: &Command) -> bool
-    ensures { result ≡ acts_in_script line.now }
-{
-    match line {
-        Command::Arrive(_) => true,
-        Command::Call(Call::Tick { .. }) => false,
-        Command::Call(_) => true,
-        _ => false,
-    }
-}
-
-/// Whether a line that is taken acts on its host: after it a host can't become self-managing.
-pub(crate) fn is_acting(line: &DriverLine) -> bool
-    ensures { result ≡ is_acting line.now }
-{
-    match line {
-        DriverLine::Script(line) => acts_in_script(line),
-        DriverLine::Say(_) => true,
-        DriverLine::Keep { .. } => true,
-        _ => false,
-    }
-}
-
-/// From now on a driven host is self-managing, if it still has the seed of its board.
-#[tactic(auto, using(crate::proofs::KeptReplies::begins_kept, crate::proofs::KeptReplies::begins_late))]
-fn begin_to_keep(
-    member: Member,
-    seed: Option<u64>,
-    rate: u32,
-    listen: u32,
-) -> (Host, Result<(), Unanswered>)
-    requires rate { 1 ≤ rate }
-    ensures { DoesOpen (values.Driven member seed) result.0 [] result.1
-        (λ h. keep_reply rate listen (Some h)) }
-{
-    match seed {
-        Some(seed) => {
-            let kept = KeptMember::keep(member, u64::from(rate), u64::from(listen), seed);
-            (Host::Kept(kept), Ok(()))
-        }
-        None => (
-            Host::Driven { member, seed: None },
-            Err(Unanswered::Refused(Refusal::TooLate)),
-        ),
-    }
+    /// It is judged.
+    Judged(JudgedMember),
 }
 
 /// The moment, if a line can name it.
@@ -91,71 +49,69 @@ fn in_time(moment: u64) -> Option<u64>
 
 impl Host {
     /// A host whose board has just been opened.
-    pub fn open(
-        alloc: Global,
-        member: u32,
-        cells: u32,
-        seed: u64,
-        tuning: Tuning,
-    ) -> Result<Host, AllocError>
-        requires cells { IsCellCount cells }
-        requires constants { are_constants tuning ≡ true }
-        ensures { IfOk result (λ h.
-            IsHostAt h (Driven (opened_with tuning member cells seed) (Some seed))) }
+    pub fn open(alloc: Global, board: Board, tuning: Tuning) -> Result<Host, AllocError>
+        requires { are_constants tuning ≡ true }
+        ensures { IfOk result (λ h. IsHostAt h
+            (Driven (opened_with tuning board.member board.cells board.seed) (Some board))) }
     {
-        let member = Member::open(alloc, member, cells, seed, tuning)?;
+        let member = board.open(alloc, tuning)?;
         Ok(Host::Driven {
             member,
-            seed: Some(seed),
+            board: Some(board),
         })
     }
 
     /// The next moment at which it has something to do, in microseconds. None if there is none, or
     /// if no line could name it.
-    #[tactic(auto, using(crate::proofs::KeptReplies::due_driven, crate::proofs::KeptReplies::due_itself))]
+    #[tactic(auto, using(crate::proofs::EachKind::due_driven, crate::proofs::EachKind::due_kept, crate::proofs::EachKind::due_judged))]
     pub fn next_due(&self) -> Option<u64>
-        ensures { (h : HostState) → IsHostAt self.now h → result ≡ due_at (Some h) }
+        ensures { (s : Kind) → IsKindAt (Some self.now) s → result ≡ due_of s }
     {
         match self {
             Host::Driven { member, .. } => member.next_due(),
             Host::Kept(kept) => in_time(kept.next_due()),
+            Host::Judged(member) => in_time(member.next_due()),
         }
     }
 
-    /// What a line does that does not make it self-managing: it prints, or it is refused, and then
-    /// the host stays as it is. One that acts takes the seed from a driven host.
-    #[tactic(auto, using(crate::proofs::KeptReplies::taken_driven, crate::proofs::KeptReplies::taken_kept))]
+    /// What a line does that does not begin to judge: it prints, or it is refused, and then the
+    /// host stays as it is. If an allocation fails, nothing is promised of what is left: the host
+    /// is given up.
     pub fn take(
-        &mut self,
+        self,
         alloc: Global,
-        line: &DriverLine,
+        content: &[u8],
         output: &mut Output,
-    ) -> Result<(), Unanswered>
-        requires { IsWithin line.now }
-        ensures text { Adds output.old output.new (λ written.
-            DoesOpen self.old self.new written result (taken_by line.now)) }
+    ) -> (Host, Result<(), Unanswered>)
+        ensures text { Adds output.old output.new (λ written. LeadsOpen self result.0 written
+            result.1 (λ tuning s. line_response tuning s content.now)) }
     {
         match self {
-            Host::Driven { member, seed } => {
-                answer(alloc, member, line, output)?;
-                if is_acting(line) {
-                    *seed = None;
-                }
-                Ok(())
-            }
-            Host::Kept(kept) => answer_kept(alloc, kept, line, output),
+            Host::Driven { member, board } => take_driven(alloc, member, board, content, output),
+            Host::Kept(kept) => take_kept(alloc, kept, content, output),
+            Host::Judged(member) => take_judged(alloc, member, content, output),
         }
     }
 
-    /// From now on it is self-managing, if it may be.
-    #[tactic(auto, using(crate::proofs::KeptReplies::begins_again))]
-    pub fn keep(self, rate: u32, listen: u32) -> (Host, Result<(), Unanswered>)
-        requires rate { 1 ≤ rate }
-        ensures { DoesOpen self result.0 [] result.1 (λ h. keep_reply rate listen (Some h)) }
+    /// From now on it is judged, if it may be.
+    #[tactic(auto, using(crate::proofs::EachKind::is_kept, crate::proofs::EachKind::is_judged))]
+    pub fn judge(
+        self,
+        alloc: Global,
+        tuning: Tuning,
+        line: JudgeLine,
+    ) -> (Host, Result<(), Unanswered>)
+        requires constants { are_constants tuning ≡ true }
+        requires line { IsJudgeLine line }
+        ensures { LeadsFrom (Some self) (Some result.0) [] result.1 (judge_response tuning line) }
     {
         match self {
-            Host::Driven { member, seed } => begin_to_keep(member, seed, rate, listen),
+            Host::Driven { member, board } => begin_to_judge(alloc, tuning, line, member, board),
             Host::Kept(kept) => (Host::Kept(kept), Err(Unanswered::Refused(Refusal::Kept))),
+            Host::Judged(member) => (
+                Host::Judged(member),
+                Err(Unanswered::Refused(Refusal::Kept)),
+            ),
         }
     }
 }

@@ -1,19 +1,17 @@
 //! What a line of a driver says.
 ghost use Rattle.std.specs.Prelude.{◌≡◌, ◌<◌, ◌^◌, IfOk};
-ghost use Rattle.std.specs.Option.{option_map};
-ghost use Rattle.std.specs.Str.{bytes_eq};
 ghost use Rattle.wb_names.specs.Moments.{IsMoment};
-ghost use Rattle.wb_words.specs.Words.{split_once};
 ghost use Rattle.wb_words.specs.Adding.{adding_reading};
 ghost use Rattle.wb_words.specs.Reading.{reading as reading_words};
 ghost use Rattle.wb_lines.specs.Words.{words};
 ghost use Rattle.wb_member.specs.Calls.{IsWithin as IsCallWithin};
 ghost use Rattle.wb_member.specs.Questions.{IsAnswerable};
 ghost use Rattle.wb_commands.specs.Parsing.{script_line_of};
-ghost use Rattle.wb_dialog.specs.Lines.{Parses, IsWithin, by_words, unanswered_by, unanswered_words, part_behind, said_by, added_by, name, call, command, keep_line, question, call_or, script_or, moment_of, came_line, line_of_words, line_of};
+ghost use Rattle.wb_dialog.specs.Lines.{Parses, IsWithin, by_words, unanswered_by, unanswered_words, said_by, added_by, name, call, command, keep_line, question, call_or, script_or, moment_of, came_line, line_of_words, line_of};
 
 use crate::fault::{Refusal, Unanswered};
 use crate::line::DriverLine;
+use crate::words::{behind, is_word};
 use std::alloc::Global;
 use wb_commands::{
     Command, LineFault, Untaken, datagram, four_words, no_words, number_word, page, parse_line,
@@ -23,31 +21,7 @@ use wb_lines::next_word;
 use wb_member::{Call, Query};
 use wb_names::{MAX_MOMENT, Name, PageId};
 use wb_policy::limits::MAX_RATE;
-use wb_words::{WordsFault, read_adding, read_words, split_once};
-
-/// Whether a word is this one. Most words are told apart by their lengths.
-#[inline(always)]
-fn is_word(word: &[u8], other: &[u8]) -> bool
-    ensures { result ≡ bytes_eq word.now other.now }
-{
-    word.len() == other.len() && word == other
-}
-
-/// What follows `opener` and a space, if a line begins with these.
-fn behind<'a>(line: &'a [u8], opener: &[u8]) -> Option<&'a [u8]>
-    ensures { option_map (λ x. x.now) result ≡ part_behind opener.now (split_once 32 line.now) }
-{
-    match split_once(line, b' ') {
-        Some((word, rest)) => {
-            if is_word(word, opener) {
-                Some(rest)
-            } else {
-                None
-            }
-        }
-        None => None,
-    }
-}
+use wb_words::{WordsFault, read_adding, read_words};
 
 /// The name of the only four words: creator and number of its page, its source and its number
 /// there.

@@ -22,6 +22,7 @@ use Rattle.wb_dialog.specs.Dialog.{answered, says_line}
 use Rattle.wb_dialog.specs.declared.fault.Refusal.{Refusal}
 use Rattle.wb_dialog.specs.declared.line.DriverLine.{DriverLine}
 use Rattle.wb_dialog.specs.Doing.{text_in}
+use Rattle.wb_dialog.specs.Boards.{BoardValue}
 use Rattle.wb_dialog.specs.Hosting.{Host, Driven, Kept, as_driven, kept_shows, reply}
 use Rattle.wb_dialog.specs.Lines.{asks}
 use Rattle.wb_laws_machines.specs.Agreement.{Agree}
@@ -41,16 +42,16 @@ use Rattle.wb_board.specs.Counts.{MAX_CELLS}
 
 -- ---- what is printed for a question
 
-driven_text : (host : Opened) (seed : Option ℕ) (text : Option (List ℕ)) → text_in (as_driven seed (answered (tells host text))) ≡ unwrap_or text []
-driven_text host seed (Some text) = refl
-driven_text host seed None = refl
+driven_text : (host : Opened) (board : Option BoardValue) (text : Option (List ℕ)) → text_in (as_driven board (answered (tells host text))) ≡ unwrap_or text []
+driven_text host board (Some text) = refl
+driven_text host board None = refl
 
 kept_text : (k : Keeping) (text : Option (List ℕ)) → text_in (kept_shows k (answered (tells k.host text))) ≡ unwrap_or text []
 kept_text k (Some text) = refl
 kept_text k None = refl
 
 asked_text : (tuning : Tuning) (h : Host) (query : Query) → text_in (reply tuning (Some h) (Ok (asks query))) ≡ telling.answered query (member_in h)
-asked_text tuning (Driven host seed) query = driven_text host seed (answer_text (answer_to query host))
+asked_text tuning (Driven host board) query = driven_text host board (answer_text (answer_to query host))
 asked_text tuning (Kept k) query = kept_text k (answer_text (answer_to query k.host))
 
 -- ---- reports in range
@@ -69,7 +70,7 @@ record IsAsked (s : Option Host) (member : Opened) : Type 0 where
 
 is_asked : (tuning : Tuning) (s : Option Host) (member : Opened) (page : PageId) → IsMemberAt member s → text_in (reply tuning s (Ok (asks (queries.Gaps page)))) ≡ gaps_text [] → IsAsked s member
 is_asked tuning None member page is none = absurd (some_printed none)
-is_asked tuning (Some (Driven host seed)) member page is none = record { is = is; prints = λ t query. asked_text t (Driven host seed) query ∙ ap (telling.answered query) is }
+is_asked tuning (Some (Driven host board)) member page is none = record { is = is; prints = λ t query. asked_text t (Driven host board) query ∙ ap (telling.answered query) is }
 is_asked tuning (Some (Kept k)) member page is none = record { is = is; prints = λ t query. asked_text t (Kept k) query ∙ ap (telling.answered query) is }
 
 module _ (numbers : ℕ → ℕ) (events newer older newer' older' : List EventAt) (i j : ℕ) (page : PageId) (width height : ℕ) (report gaps show view : InputLine)

@@ -67,7 +67,7 @@ first line = search plain_rules depth 20
 
 told_plain : (s : Option Host) (line : DriverLine) → HoldsLines s → IsNoShow (Ok line) → Plain (told_of s line)
 told_plain None line held shows = first line
-told_plain (Some (Driven host seed)) line held shows = driven host held line shows
+told_plain (Some (Driven host board)) line held shows = driven host held line shows
 told_plain (Some (Kept k)) line held shows = kept k held line shows
 
 said_plain : (s : Option Host) (said : Result DriverLine Refusal) → HoldsLines s → IsNoShow said → Plain (told_said s said)

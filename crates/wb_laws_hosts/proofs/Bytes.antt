@@ -73,7 +73,7 @@ sent_in_range (deed ∷ deeds) host brings f d c =
 
 sent_fits : (s : Option Host) (deeds : List Deed) → Holds s → EachBrings deeds → (d : DrawopValue) → Contains (sent_at_host s deeds) (datagrams.Draw d) → IsDrawop d
 sent_fits None deeds holds brings d c = absurd (Contains-none (datagrams.Draw d) c)
-sent_fits (Some (Driven host seed)) deeds holds brings d c = sent_in_range deeds host brings holds d c
+sent_fits (Some (Driven host board)) deeds holds brings d c = sent_in_range deeds host brings holds d c
 sent_fits (Some (Kept k)) deeds holds brings d c = sent_in_range deeds k.host brings holds d c
 
 -- ---- what is handed in is in range

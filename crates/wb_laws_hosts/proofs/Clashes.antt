@@ -122,22 +122,22 @@ module _ (numbers : ℕ → ℕ) (place : ℕ) (older : List Step) (apart : AreA
 
   handed : (d : DrawopValue) (s : Option Host) → NoClash s (Script (lines.Arrive d))
   handed d None is honest e = no_text k e
-  handed d (Some (Driven host seed)) is honest e = none_arrives d (Does (Arrives d) ∷ []) host is honest (Contains-here (Does (Arrives d)) []) (only_clash k (becomes d host) e)
+  handed d (Some (Driven host board)) is honest e = none_arrives d (Does (Arrives d) ∷ []) host is honest (Contains-here (Does (Arrives d)) []) (only_clash k (becomes d host) e)
   handed d (Some (Kept it)) is honest e = no_text k e
 
   came_in : (now : ℕ) (d : DrawopValue) (s : Option Host) → NoClash s (Came now (datagrams.Draw d))
   came_in now d None is honest e = no_text k e
-  came_in now d (Some (Driven host seed)) is honest e = no_text k e
+  came_in now d (Some (Driven host board)) is honest e = no_text k e
   came_in now d (Some (Kept it)) is honest e = none_arrives d (deeds_doing (came now (datagrams.Draw d)) it) it.host is honest (came_arrives now d it) (only_clash k (becomes d it.host) e)
 
   said : (d : DrawopValue) (s : Option Host) → NoClash s (Say (datagrams.Draw d))
   said d None is honest e = no_text k e
-  said d (Some (Driven host seed)) is honest e = none_drawn d (Does (Says (datagrams.Draw d)) ∷ []) host is honest (Contains-here (Does (Says (datagrams.Draw d))) []) (only_clash_unsent k (becomes d host) e)
+  said d (Some (Driven host board)) is honest e = none_drawn d (Does (Says (datagrams.Draw d)) ∷ []) host is honest (Contains-here (Does (Says (datagrams.Draw d))) []) (only_clash_unsent k (becomes d host) e)
   said d (Some (Kept it)) is honest e = no_text k e
 
   added : (a : Adding) (s : Option Host) → NoClash s (Add a)
   added a None is honest e = no_text k e
-  added a (Some (Driven host seed)) is honest e = no_text k e
+  added a (Some (Driven host board)) is honest e = no_text k e
   added a (Some (Kept it)) is honest e =
       let d = drawing (view_of it.host) a.page a.time a.op in
       none_drawn d (deeds_doing (adds a.moment a.page a.time a.op) it) it.host is honest (adds_says a it) (only_clash_unsent k (becomes d it.host) e)

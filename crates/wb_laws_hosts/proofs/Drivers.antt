@@ -22,7 +22,8 @@ use Rattle.wb_dialog.specs.declared.fault.Refusal.TheVariants as refusals
 use Rattle.wb_dialog.specs.declared.line.DriverLine.{DriverLine}
 use Rattle.wb_dialog.specs.declared.line.DriverLine.TheVariants.{Script, Say, Keep, Came, Add}
 use Rattle.wb_dialog.specs.Dialog.{goes_out, refuses, says_line}
-use Rattle.wb_dialog.specs.Hosting.{Host, Driven, Kept, Reply, prints, denies, as_driven, kept_does, kept_reply, reply, reply_to, seed_after}
+use Rattle.wb_dialog.specs.Boards.{BoardValue}
+use Rattle.wb_dialog.specs.Hosting.{Host, Driven, Kept, Reply, prints, denies, as_driven, kept_does, kept_reply, reply, reply_to, board_after}
 use Rattle.wb_laws_sessions.specs.Drawn.{AreHonest, WasHeld, drawn_at}
 use Rattle.wb_laws_machines.specs.Honest.{IsAbove}
 use Rattle.wb_laws_sessions.specs.Sessions.{Step, host_at, steps_then}
@@ -66,12 +67,12 @@ module _ (numbers : ℕ → ℕ) (place : ℕ) (older : List Step) (honest : Are
 
     -- ---- at a host that its driver drives
 
-    module _ (tuning : Tuning) (host : Opened) (seed : Option ℕ) (there : host ≡ host_at numbers older place) (says : (d : DrawopValue) → line ≡ Say (datagrams.Draw d) → IsHeldOrNext (drawn_at numbers older place) (Some (Driven host seed)) d) where
+    module _ (tuning : Tuning) (host : Opened) (board : Option BoardValue) (there : host ≡ host_at numbers older place) (says : (d : DrawopValue) → line ≡ Say (datagrams.Draw d) → IsHeldOrNext (drawn_at numbers older place) (Some (Driven host board)) d) where
       abbrev GoesBy : DriverLine → Type 0
-      GoesBy said = Goes (deeds_by (reply_to tuning (Some (Driven host seed)) said) (deeds_driven said))
+      GoesBy said = Goes (deeds_by (reply_to tuning (Some (Driven host board)) said) (deeds_driven said))
 
       one : (said : DriverLine) → Goes (deeds_driven said) → GoesBy said
-      one said goes = by_reply (reply_to tuning (Some (Driven host seed)) said) (deeds_driven said) goes
+      one said goes = by_reply (reply_to tuning (Some (Driven host board)) said) (deeds_driven said) goes
 
       script : (said : Command) → line ≡ Script said → GoesBy (Script said)
       script (lines.Arrive d) is = one (Script (lines.Arrive d)) (given (Arrives d) (inl is))
@@ -84,10 +85,10 @@ module _ (numbers : ℕ → ℕ) (place : ℕ) (older : List Step) (honest : Are
         in_range = subst drivers.Fits is fit
 
         new : Contains (host_at numbers older place).is.held d ⊎ IsAbove (drawn_at numbers older place) d.name
-        new = subst (λ (h : Opened). IsHeldOrNext (drawn_at numbers older place) (Some (Driven h seed)) d) there (says d is)
+        new = subst (λ (h : Opened). IsHeldOrNext (drawn_at numbers older place) (Some (Driven h board)) d) there (says d is)
 
         by : (b : Bool) → nat_eq d.name.source host.is.number ≡ b
-            → Goes (deeds_by (as_driven (seed_after (Say (datagrams.Draw d)) seed) (cond b (goes_out (datagrams.Draw d) host) (refuses refusals.Member))) (Does (Says (datagrams.Draw d)) ∷ []))
+            → Goes (deeds_by (as_driven (board_after (Say (datagrams.Draw d)) board) (cond b (goes_out (datagrams.Draw d) host) (refuses refusals.Member))) (Does (Says (datagrams.Draw d)) ∷ []))
         by true own = (
           drawing_is_honest numbers older 0 place d
               (eqb-true d.name.source host.is.number own ∙ ap (λ (h : Opened). h.is.number) there ∙ number_at numbers older place) in_range.name.positive new,
@@ -136,8 +137,8 @@ module _ (numbers : ℕ → ℕ) (place : ℕ) (older : List Step) (honest : Are
         → (read : Result DriverLine Refusal) → said ≡ read → IfOk read drivers.Fits → Goes (deeds_by (reply tuning s read) (deeds_said tuning s read))
     line_goes s is comes says knows (Err e) same fits = by_reply (reply tuning s (Err e)) [] honest
     line_goes None is comes says knows (Ok line) same fits = by_reply (reply tuning None (Ok line)) (deeds_first tuning line) (opens tuning line fits)
-    line_goes (Some (Driven host seed)) is comes says knows (Ok line) same fits =
-        driven line fits (λ d hands. comes line d same hands) tuning host seed is (λ d e. says d (same ∙ ap (λ (l : DriverLine). ok l) e)) line refl
+    line_goes (Some (Driven host board)) is comes says knows (Ok line) same fits =
+        driven line fits (λ d hands. comes line d same hands) tuning host board is (λ d e. says d (same ∙ ap (λ (l : DriverLine). ok l) e)) line refl
       where
         ok : DriverLine → Result DriverLine Refusal
         ok l = Ok l

@@ -26,7 +26,8 @@ use Rattle.wb_dialog.specs.declared.fault.Refusal.TheVariants as refusals
 use Rattle.wb_dialog.specs.declared.line.DriverLine.{DriverLine}
 use Rattle.wb_dialog.specs.declared.line.DriverLine.TheVariants.{Script, Say, Keep, Came, Add}
 use Rattle.wb_dialog.specs.Dialog.{Answer, answer_at, answered, goes_out, refuses, said_text, speaker}
-use Rattle.wb_dialog.specs.Hosting.{Host, Driven, Kept, Reply, prints, denies, as_driven, begins, came_text, host_after, kept_does, kept_reply, kept_shows, reply, reply_to, seed_after, unsent_text}
+use Rattle.wb_dialog.specs.Boards.{BoardValue}
+use Rattle.wb_dialog.specs.Hosting.{Host, Driven, Kept, Reply, prints, denies, as_driven, begins, came_text, host_after, kept_does, kept_reply, kept_shows, reply, reply_to, board_after, unsent_text}
 use Rattle.wb_laws_sessions.specs.Sessions.{after_deeds, sent_by_deeds}
 use Rattle.wb_laws_sessions.specs.Members.{Deed, Opens}
 use Rattle.wb_laws_sessions.proofs.Several.{after_performed, sent_performed}
@@ -36,7 +37,7 @@ use Rattle.wb_laws_hosts.specs.Telling.{told_driven, told_first, told_kept, told
 
 -- the member that a host is
 abbrev pub member_in : Host → Opened
-member_in (Driven host seed) = host
+member_in (Driven host board) = host
 member_in (Kept k) = k.host
 
 -- It leads to the member after these deeds, and prints what they send, and then its answer; or it is refused.
@@ -53,9 +54,9 @@ one v = sym (append-nil (sends_text (v ∷ [])) ∙ append-nil (send_line v))
 
 -- ---- at a host that its driver drives
 
-module _ (host : Opened) (seed : Option ℕ) where
+module _ (host : Opened) (board : Option BoardValue) where
   abbrev Leads : Answer → List Deed → List ℕ → Type 0
-  Leads a deeds told = Led host (as_driven seed a) deeds told
+  Leads a deeds told = Led host (as_driven board a) deeds told
 
   call_led : (call : Call) → Leads (answer_at (Script (lines.Call call)) host) (deeds_driven (Script (lines.Call call))) (found_text (found_by call host))
   call_led call =
@@ -122,13 +123,13 @@ module _ (k : Keeping) where
 
 -- ---- at a host of either kind
 
-begins_led : (rate listen : ℕ) (host : Opened) (seed : Option ℕ) → Led host (begins rate listen host seed) [] []
+begins_led : (rate listen : ℕ) (host : Opened) (board : Option BoardValue) → Led host (begins rate listen host board) [] []
 begins_led rate listen host None = tt
-begins_led rate listen host (Some seed) = (refl, refl)
+begins_led rate listen host (Some board) = (refl, refl)
 
 open_led : (tuning : Tuning) (h : Host) (line : DriverLine) → Led (member_in h) (reply_to tuning (Some h) line) (deeds_of_line tuning (Some h) line) (told_of (Some h) line)
-open_led tuning (Driven host seed) (Keep rate listen) = begins_led rate listen host seed
-open_led tuning (Driven host seed) line = driven_led host (seed_after line seed) line
+open_led tuning (Driven host board) (Keep rate listen) = begins_led rate listen host board
+open_led tuning (Driven host board) line = driven_led host (board_after line board) line
 open_led tuning (Kept k) (Keep rate listen) = tt
 open_led tuning (Kept k) line = kept_led k line
 
@@ -156,8 +157,8 @@ led_after s member (denies e) deeds told is led = is
 
 pub line_after : (tuning : Tuning) (s : Option Host) (member : Opened) (said : Result DriverLine Refusal) → IsOf member.is.number s said → IsMemberAt member s → IsMemberAt (after_deeds (deeds_by (reply tuning s said) (deeds_said tuning s said)) member) (host_after s (reply tuning s said))
 line_after tuning None member said of is = led_after None member (reply tuning None said) (deeds_said tuning None said) (told_said None said) is (first_led_at tuning member said of)
-line_after tuning (Some (Driven host seed)) member said of is =
-    let h : Host = Driven host seed in
+line_after tuning (Some (Driven host board)) member said of is =
+    let h : Host = Driven host board in
     led_after (Some h) member (reply tuning (Some h) said) (deeds_said tuning (Some h) said) (told_said (Some h) said) is (subst (λ (m : Opened). Led m (reply tuning (Some h) said) (deeds_said tuning (Some h) said) (told_said (Some h) said)) is (said_led_at tuning h said))
 line_after tuning (Some (Kept k)) member said of is =
     let h : Host = Kept k in

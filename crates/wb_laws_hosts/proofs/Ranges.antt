@@ -178,7 +178,7 @@ by_reply (prints next text) deeds brings = brings
 by_reply (denies e) deeds brings = tt
 
 open_brings : (tuning : Tuning) (h : Host) (line : DriverLine) → InRange (member_in h) → drivers.Fits line → EachBrings (deeds_by (reply_to tuning (Some h) line) (deeds_of_line tuning (Some h) line))
-open_brings tuning (Driven host seed) line f fit = by_reply (reply_to tuning (Some (Driven host seed)) line) (deeds_driven line) (driven_brings line fit)
+open_brings tuning (Driven host board) line f fit = by_reply (reply_to tuning (Some (Driven host board)) line) (deeds_driven line) (driven_brings line fit)
 open_brings tuning (Kept k) (Keep rate listen) f fit = tt
 open_brings tuning (Kept k) line f fit = kept_brings k f line fit
 
@@ -186,12 +186,12 @@ open_brings tuning (Kept k) line f fit = kept_brings k f line fit
 
 abbrev pub Holds : Option Host → Type 0
 Holds None = Unit {0}
-Holds (Some (Driven host seed)) = InRange host
+Holds (Some (Driven host board)) = InRange host
 Holds (Some (Kept k)) = InRange k.host
 
 is_held : (h : Option Host) (member : Opened) → IsMemberAt member h → InRange member → Holds h
 is_held None member is f = tt
-is_held (Some (Driven host seed)) member is f = subst InRange (sym is) f
+is_held (Some (Driven host board)) member is f = subst InRange (sym is) f
 is_held (Some (Kept k)) member is f = subst InRange (sym is) f
 
 -- a board that was just opened
@@ -215,7 +215,7 @@ module _ (tuning : Tuning) where
   pub said_holds : (s : Option Host) (said : Result DriverLine Refusal) → Holds s → IfOk said drivers.Fits → Holds (host_after s (reply tuning s said))
   said_holds None (Ok line) f fit = first_holds tuning line fit
   said_holds None (Err e) f fit = tt
-  said_holds (Some (Driven host seed)) said f fit = led_holds (Driven host seed) said f (said_brings (Driven host seed) said f fit) refl
+  said_holds (Some (Driven host board)) said f fit = led_holds (Driven host board) said f (said_brings (Driven host board) said f fit) refl
   said_holds (Some (Kept k)) said f fit = led_holds (Kept k) said f (said_brings (Kept k) said f fit) refl
 
 pub line_brings : (s : Hosting) (line : InputLine) → Holds s.host → EachBrings (deeds_at s line)
@@ -229,7 +229,7 @@ line_brings s line h = by s.host h where
 
   by : (o : Option Host) → Holds o → EachBrings (deeds_by (reply s.tuning o (says_line (met line))) (deeds_said s.tuning o (says_line (met line))))
   by None h = first_brings (says_line (met line))
-  by (Some (Driven host seed)) h = said_brings s.tuning (Driven host seed) (says_line (met line)) h (met_fits (met line))
+  by (Some (Driven host board)) h = said_brings s.tuning (Driven host board) (says_line (met line)) h (met_fits (met line))
   by (Some (Kept k)) h = said_brings s.tuning (Kept k) (says_line (met line)) h (met_fits (met line))
 
 from_holds : (s : Hosting) (older : List InputLine) → Holds s.host → Holds (hosting_from s older).host
@@ -251,7 +251,7 @@ hosts_hold (e ∷ older) i = by (hosts_hold older i) (nat_eq e.place i) where
 
 in_range : (h : Option Host) (member : Opened) → Holds h → IsOpenHost h member → All IsDrawop member.is.held
 in_range None member f is = absurd is
-in_range (Some (Driven host seed)) member f is = subst (λ (m : Opened). All IsDrawop m.is.held) is f.board
+in_range (Some (Driven host board)) member f is = subst (λ (m : Opened). All IsDrawop m.is.held) is f.board
 in_range (Some (Kept k)) member f is = subst (λ (m : Opened). All IsDrawop m.is.held) is f.board
 
 pub boards_are_in_range : BoardsAreInRange
@@ -259,7 +259,7 @@ boards_are_in_range events i member is = in_range (hosting_at events i).host mem
 
 holds_lines : (s : Option Host) → Holds s → HoldsLines s
 holds_lines None h = tt
-holds_lines (Some (Driven host seed)) h = board_lines host.is.held h.board
+holds_lines (Some (Driven host board)) h = board_lines host.is.held h.board
 holds_lines (Some (Kept k)) h = board_lines k.host.is.held h.board
 
 pub hosts_hold_lines : (tuning : Tuning) (older : List InputLine) → HoldsLines (hosting_from (unopened tuning) older).host

@@ -30,7 +30,7 @@ use Rattle.wb_laws_hosts.proofs.TextSessions.{older_numbered, texts_are_sessions
 
 open_sends : (h : Option Host) (member : Opened) (deeds : List Deed) (v : Datagram) → IsMemberAt member h → Contains (sent_at_host h deeds) v → Contains (sent_by_deeds deeds member) v
 open_sends None member deeds v is c = absurd (Contains-none v c)
-open_sends (Some (Driven host seed)) member deeds v is c = subst (λ (m : Opened). Contains (sent_by_deeds deeds m) v) is c
+open_sends (Some (Driven host board)) member deeds v is c = subst (λ (m : Opened). Contains (sent_by_deeds deeds m) v) is c
 open_sends (Some (Kept k)) member deeds v is c = subst (λ (m : Opened). Contains (sent_by_deeds deeds m) v) is c
 
 module _ (numbers : ℕ → ℕ) where
@@ -62,7 +62,7 @@ module _ (numbers : ℕ → ℕ) where
   sent_here : (tuning : Tuning) (s : Option Host) (said : Result DriverLine Refusal) (member : Opened) (v : Datagram) → IsMemberAt member s
       → let deeds = deeds_by (reply tuning s said) (deeds_said tuning s said) in Contains deeds (Does (Says v)) → Contains (sent_by_deeds deeds member) v → Contains (sent_at_host s deeds) v
   sent_here tuning None said member v is by c = absurd (first_none tuning said v by)
-  sent_here tuning (Some (Driven host seed)) said member v is by c = subst (λ (m : Opened). Contains (sent_by_deeds (deeds_by (reply tuning (Some (Driven host seed)) said) (deeds_said tuning (Some (Driven host seed)) said)) m) v) (sym is) c
+  sent_here tuning (Some (Driven host board)) said member v is by c = subst (λ (m : Opened). Contains (sent_by_deeds (deeds_by (reply tuning (Some (Driven host board)) said) (deeds_said tuning (Some (Driven host board)) said)) m) v) (sym is) c
   sent_here tuning (Some (Kept k)) said member v is by c = subst (λ (m : Opened). Contains (sent_by_deeds (deeds_by (reply tuning (Some (Kept k)) said) (deeds_said tuning (Some (Kept k)) said)) m) v) (sym is) c
 
   pub drawn_was_said : (events : List EventAt) → HaveNumbers numbers events → (k : ℕ) (d : DrawopValue) → d.name.source ≡ numbers k → Contains (drawn_at numbers (steps_of_texts events) k) d → WasSaid numbers events d
@@ -96,7 +96,7 @@ module _ (numbers : ℕ → ℕ) where
 -- an open host is the member at its place
 pub open_is : (h : Option Host) (member host : Opened) → IsMemberAt member h → IsOpenHost h host → host ≡ member
 open_is None member host is it = absurd it
-open_is (Some (Driven other seed)) member host is it = sym it ∙ is
+open_is (Some (Driven other board)) member host is it = sym it ∙ is
 open_is (Some (Kept k)) member host is it = sym it ∙ is
 
 pub sent_was_said : SentWasSaid

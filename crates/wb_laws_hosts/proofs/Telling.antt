@@ -29,8 +29,8 @@ first tuning said = refl
 told_at_host : (tuning : Tuning) (s : Option Host) (said : Result DriverLine Refusal) → let r = reply tuning s said in
     text_in r ≡ sends_text (sent_at_host s (deeds_by r (deeds_said tuning s said))) ++ told_by r (told_said s said)
 told_at_host tuning None said = first tuning said
-told_at_host tuning (Some (Driven host seed)) said =
-    let h : Host = Driven host seed in
+told_at_host tuning (Some (Driven host board)) said =
+    let h : Host = Driven host board in
     by_led host (reply tuning (Some h) said) (deeds_said tuning (Some h) said) (told_said (Some h) said) (said_led_at tuning h said)
 told_at_host tuning (Some (Kept k)) said =
     let h : Host = Kept k in

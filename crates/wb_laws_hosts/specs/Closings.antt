@@ -46,7 +46,7 @@ AreOneLine ds = All (λ (d : DrawopValue). IsOneLine d.op) ds
 
 abbrev pub HoldsLines : Option Host → Type 0
 HoldsLines None = Unit {0}
-HoldsLines (Some (Driven host seed)) = AreOneLine host.is.held
+HoldsLines (Some (Driven host board)) = AreOneLine host.is.held
 HoldsLines (Some (Kept k)) = AreOneLine k.host.is.held
 
 -- No line but `show` prints a line that looks as if it closed the block, whether the host is self-managing or not.

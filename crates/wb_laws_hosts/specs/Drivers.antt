@@ -19,7 +19,7 @@ use Rattle.wb_laws_hosts.specs.Texts.{EventAt, HaveNumbers, Takes, hosting_at, s
 -- great as each that its member drew there, by all processes.
 abbrev pub HostKnowsItsOwn : List DrawopValue → Option Host → PageId → Type 0
 HostKnowsItsOwn drawn None page = Unit {0}
-HostKnowsItsOwn drawn (Some (Driven host seed)) page = Unit {0}
+HostKnowsItsOwn drawn (Some (Driven host board)) page = Unit {0}
 HostKnowsItsOwn drawn (Some (Kept k)) page = (d : DrawopValue) → Contains drawn d
     → d.name.page ≡ page → d.name.seq ≤ last_number page k.host
 
@@ -27,7 +27,7 @@ HostKnowsItsOwn drawn (Some (Kept k)) page = (d : DrawopValue) → Contains draw
 -- there.
 abbrev pub IsHeldOrNext : List DrawopValue → Option Host → DrawopValue → Type 0
 IsHeldOrNext drawn None d = Unit {0}
-IsHeldOrNext drawn (Some (Driven host seed)) d = Contains host.is.held d ⊎ IsAbove drawn d.name
+IsHeldOrNext drawn (Some (Driven host board)) d = Contains host.is.held d ⊎ IsAbove drawn d.name
 IsHeldOrNext drawn (Some (Kept k)) d = Unit {0}
 
 -- A drawop that is handed in, from others or from a record, was on some member's board

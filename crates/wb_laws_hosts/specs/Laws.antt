@@ -32,7 +32,7 @@ use Rattle.wb_laws_hosts.specs.Texts.{CameOut, TextEvent, EventAt, HaveNumbers, 
 -- this member is open, whether its driver drives it or it is self-managing
 abbrev pub IsOpenHost : Option Host → Opened → Type 0
 IsOpenHost None member = ⊥
-IsOpenHost (Some (Driven host seed)) member = host ≡ member
+IsOpenHost (Some (Driven host board)) member = host ≡ member
 IsOpenHost (Some (Kept k)) member = k.host ≡ member
 
 -- ---- ranges

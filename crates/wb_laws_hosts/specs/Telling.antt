@@ -68,7 +68,7 @@ told_first line = []
 
 abbrev pub told_of : Option Host → DriverLine → List ℕ
 told_of None line = told_first line
-told_of (Some (Driven host seed)) line = told_driven line host
+told_of (Some (Driven host board)) line = told_driven line host
 told_of (Some (Kept k)) line = told_kept line k
 
 abbrev pub told_said : Option Host → Result DriverLine Refusal → List ℕ

@@ -79,7 +79,7 @@ deeds_kept line k = []
 
 abbrev pub deeds_of_line : Tuning → Option Host → DriverLine → List Deed
 deeds_of_line tuning None line = deeds_first tuning line
-deeds_of_line tuning (Some (Driven host seed)) line = deeds_driven line
+deeds_of_line tuning (Some (Driven host board)) line = deeds_driven line
 deeds_of_line tuning (Some (Kept k)) line = deeds_kept line k
 
 -- a line that is refused is no deed
@@ -123,7 +123,7 @@ HaveNumbers numbers (e ∷ older) =
 -- what is open at a place is this member
 abbrev pub IsMemberAt : Opened → Option Host → Type 0
 IsMemberAt member None = Unit {0}
-IsMemberAt member (Some (Driven host seed)) = host ≡ member
+IsMemberAt member (Some (Driven host board)) = host ≡ member
 IsMemberAt member (Some (Kept k)) = k.host ≡ member
 
 -- The host at each place is the member there, whether its driver drives it or it is self-managing,
@@ -137,7 +137,7 @@ TextsAreSessions = (numbers : ℕ → ℕ) (events : List EventAt) → HaveNumbe
 -- the datagrams of the deeds of a line, at the host that is open
 abbrev pub sent_at_host : Option Host → List Deed → List Datagram
 sent_at_host None deeds = []
-sent_at_host (Some (Driven host seed)) deeds = sent_by_deeds deeds host
+sent_at_host (Some (Driven host board)) deeds = sent_by_deeds deeds host
 sent_at_host (Some (Kept k)) deeds = sent_by_deeds deeds k.host
 
 abbrev pub sent_for_line : Hosting → InputLine → List Datagram

@@ -1,48 +1,4 @@
-use Rattle.std.proofs.Common.{Ok, Err, refl, sym, ap, subst, ◌∙◌}
-use Rattle.std.specs.declared.convert.Infallible.{Infallible}
-use Rattle.wb_lines.specs.declared.fault.DriveFault.{DriveFault}
-use Rattle.wb_lines.specs.Driving.{rules_of, outcome, Meets}
-use Rattle.wb_dialog.specs.Hosting.{step, unopened}
-use Rattle.wb_dialog.specs.Doing.{DialogValue, IsAt}
-use Rattle.wb_dialog.specs.declared.fault.HostFault.TheVariants as host_faults
-use Rattle.wb_dialog.proofs.Transcripts.{hosts_transcript, host_endless, same_fault, fault_reads, fault_writes, fault_ends}
 use Rattle.wb_dialog.proofs.hosting.host.Goals as goal
 
-pub returns-in-Ok-clause-text : goal.returns-in-Ok-clause-text
-returns-in-Ok-clause-text g c =
-    let l = c.in-Ok.ensures.lines in
-    let at = subst (λ (d : DialogValue). IsAt d (unopened c.args.tuning)) (sym c.new-dialog.ensures) (record { tuning = refl; host = tt }) in (
-      l.0,
-      l.1,
-      l.2,
-      l.3,
-      (hosts_transcript c.args.tuning 18446744073709551615 (g.R.Source.has_failed c.drive.new.source) l.0 l.1 (Ok c.in-Ok.field-0) (l.4 (unopened c.args.tuning) at)).0,
-      λ e. cc,
-    )
-
-pub returns-in-Ok-clause-whole : goal.returns-in-Ok-clause-whole
-returns-in-Ok-clause-whole g c =
-    let l = c.in-Ok.ensures.lines in
-    let at = subst (λ (d : DialogValue). IsAt d (unopened c.args.tuning)) (sym c.new-dialog.ensures) (record { tuning = refl; host = tt }) in
-    (hosts_transcript c.args.tuning 18446744073709551615 (g.R.Source.has_failed c.drive.new.source) l.0 l.1 (Ok c.in-Ok.field-0) (l.4 (unopened c.args.tuning) at)).1
-
 pub returns-clause-text : goal.returns-clause-text
-returns-clause-text g c =
-    let l = c.in-Err.ensures.lines in
-    let at = subst (λ (d : DialogValue). IsAt d (unopened c.args.tuning)) (sym c.new-dialog.ensures) (record { tuning = refl; host = tt }) in (
-      l.0,
-      l.1,
-      l.2,
-      l.3,
-      rw c.fault_of.ensures (hosts_transcript c.args.tuning 18446744073709551615 (g.R.Source.has_failed c.drive.new.source) l.0 l.1 (Err c.in-Err.fault) (l.4 (unopened c.args.tuning) at)),
-      λ e.
-          let ends = fault_ends c.in-Err.fault (sym c.fault_of.ensures ∙ same_fault c.fault_of.result host_faults.Endless e) in
-          host_endless c.args.tuning 18446744073709551615 (g.R.Source.has_failed c.drive.new.source) l.0 l.1
-          (subst (λ (f : DriveFault Infallible). Meets (outcome (rules_of step 18446744073709551615) (g.R.Source.has_failed c.drive.new.source) (unopened c.args.tuning) l.0) l.1 (Err f)) ends (l.4 (unopened c.args.tuning) at)),
-    )
-
-pub returns-clause-read : goal.returns-clause-read
-returns-clause-read g c = λ e. c.in-Err.ensures.read (ap Err (fault_reads c.in-Err.fault (sym c.fault_of.ensures ∙ same_fault c.fault_of.result host_faults.Read e)))
-
-pub returns-clause-write : goal.returns-clause-write
-returns-clause-write g c = λ e. c.in-Err.ensures.write (ap Err (fault_writes c.in-Err.fault (sym c.fault_of.ensures ∙ same_fault c.fault_of.result host_faults.Write e)))
+returns-clause-text g c = rw c.new-dialog.ensures at c.answer_all.ensures.text

@@ -11,6 +11,6 @@ returns-in-Err c =
       text = (
         [],
         sym (append-nil c.args.output.now),
-        λ k at. rw c.refused.ensures (refuses_line _ (Unit {0}) c.args.kept.now _ k (doing_of line) (kept_batch line (became_of line k.host)) (fault_of line k) c.in-Err.fault (c.in-Err.ensures.fault k at) (c.in-Err.ensures.refused k at) at),
+        λ k at. rw c.refused_by_kept.ensures (refuses_line _ (Unit {0}) c.args.kept.now _ k (doing_of line) (kept_batch line (became_of line k.host)) (fault_of line k) c.in-Err.fault (c.in-Err.ensures.fault k at) (c.in-Err.ensures.refused k at) at),
       );
     }

@@ -1,19 +1,9 @@
-use Rattle.std.proofs.Common.{refl, ap}
-use Rattle.wb_dialog.specs.Doing.{kept_in}
-use Rattle.wb_judged_dialog.specs.Doing.{JudgedDialogValue}
 use Rattle.wb_c.specs.Performing.{Answers}
-use Rattle.wb_c.proofs.Served.{at_none, member_did}
-use Rattle.wb_c.specs.declared.room.Room.{Room as RoomValue}
+use Rattle.wb_c.proofs.Served.{any_judged, any_kept}
 use Rattle.wb_c.proofs.room.Room.answers.Goals as goal
 
-pub returns-in_default : goal.returns-in_default
-returns-in_default c =
-    let room : RoomValue = c.args.self.now in
-    let after : RoomValue = record { dialog = c.take_kept.new.self; block = room.block; events = room.events } in
-    at_none (Answers c.args.query) room after 7 (kept_in room.dialog.dialog.host) c.in_default.ensures.kept (refl, ap (λ (d : JudgedDialogValue). record { dialog = d; block = room.block; events = room.events }) (c.in_default.ensures.none refl))
+pub returns-then-is_judged : goal.returns-then-is_judged
+returns-then-is_judged c = any_judged (Answers c.args.query) c.args.self.now c.answers_judged.new.self c.answers_judged.result c.is_judged.result c.is_judged.ensures c.if-is_judged.true c.answers_judged.ensures
 
-pub returns : goal.returns
-returns c =
-    let room : RoomValue = c.args.self.now in
-    let after : RoomValue = record { dialog = c.put_kept.new.self; block = room.block; events = c.ask-status.new.events } in
-    member_did (Answers c.args.query) room after c.ask-status.result c.take_kept.new.self c.in-Some.kept c.ask-status.new.kept c.in-Some.ensures.kept (c.in-Some.ensures.some c.in-Some.kept refl) c.put_kept.ensures refl c.ask-status.ensures
+pub returns-else-is_judged : goal.returns-else-is_judged
+returns-else-is_judged c = any_kept (Answers c.args.query) c.args.self.now c.answers_kept.new.self c.answers_kept.result c.is_judged.result c.is_judged.ensures c.if-is_judged.false c.answers_kept.ensures

@@ -1,5 +1,5 @@
 use Rattle.std.proofs.Common.{refl, ap}
-use Rattle.wb_judged_dialog.specs.Doing.{JudgedDialogValue, member_in}
+use Rattle.wb_dialog.specs.Doing.{DialogValue, judged_in}
 use Rattle.wb_c.proofs.Served.{at_not_judged, judged_did}
 use Rattle.wb_c.specs.declared.room.Room.{Room as RoomValue}
 use Rattle.wb_c.proofs.room.Room.judge.Goals as goal
@@ -8,7 +8,7 @@ pub returns-in_default : goal.returns-in_default
 returns-in_default c =
     let room : RoomValue = c.args.self.now in
     let after : RoomValue = record { dialog = c.take_member.new.self; block = room.block; events = room.events } in
-    at_not_judged c.args.call.now room after 16 (member_in room.dialog) c.in_default.ensures.member (refl, ap (λ (d : JudgedDialogValue). record { dialog = d; block = room.block; events = room.events }) (c.in_default.ensures.none refl))
+    at_not_judged c.args.call.now room after 16 (judged_in room.dialog.host) c.in_default.ensures.member (refl, ap (λ (d : DialogValue). record { dialog = d; block = room.block; events = room.events }) (c.in_default.ensures.none refl))
 
 pub returns : goal.returns
 returns c =

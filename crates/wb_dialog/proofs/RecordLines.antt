@@ -1,0 +1,103 @@
+-- What is recorded is read as what it was.
+use Rattle.std.proofs.Common.{◌≡◌, ℕ, ◌+◌, ◌*◌, ◌-◌, ◌^◌, ◌<◌, ◌≤◌, Bool, true, false, List, [], ◌∷◌, ◌++◌, length, Some, Ok, refl, sym, ap, ◌∙◌, append_assoc, append-nil, arith}
+use Rattle.std.specs.Prelude.{All, codes, decimal, nat_eq}
+use Rattle.std.specs.Char.{digit_value}
+use Rattle.std.specs.Str.Parse.{AllDigits, digits_value, digits_value_after}
+use Rattle.std.proofs.lemmas.Bool.Decides.{nat_tests}
+use Rattle.std.proofs.lemmas.Fmt.{decimal_is_IsNumeral, decimal_nonempty}
+use Rattle.std.proofs.lemmas.List.Elements.{All-head, All-tail}
+use Rattle.std.proofs.lemmas.Str.{digit_value_digit}
+use Rattle.std.proofs.lemmas.Str.Parse.{digit_from_value}
+use Rattle.wb_names.specs.Values.{DrawopValue}
+use Rattle.wb_names.specs.declared.moment.TheConstants.{MAX_MOMENT}
+use Rattle.wb_codec.specs.Ranges.{IsDrawop}
+use Rattle.wb_codec.specs.declared.datagram.Datagram.{Datagram}
+use Rattle.wb_codec.specs.declared.datagram.Datagram.TheVariants.{Draw, PageState}
+use Rattle.wb_words.specs.Reading.{begins_datagram, first_is_kind, is_kind}
+use Rattle.wb_words.specs.Spelling.{spelled}
+use Rattle.wb_words.proofs.SpellingLaws.{read_again, words_spelled}
+use Rattle.wb_words.proofs.Splitting.{decimal_lacks}
+use Rattle.wb_lines.specs.Words.{number_from, number_of, words, words_after}
+use Rattle.wb_member.specs.declared.calls.Call.TheVariants.{Tick}
+use Rattle.wb_commands.specs.declared.command.Command.{Command}
+use Rattle.wb_commands.specs.declared.command.Command.TheVariants as lines
+use Rattle.wb_commands.specs.Parsing.{script_command, handed_in, script_line_of, tick, ◌>>=◌}
+use Rattle.wb_commands.specs.SentLines.{digits_of}
+use Rattle.wb_commands.proofs.SentDigits.{taken}
+use Rattle.wb_judging.specs.declared.record.RecordLine.{RecordLine}
+use Rattle.wb_judging.specs.declared.record.RecordLine.TheVariants as records
+use Rattle.wb_dialog.specs.JudgedLines.{held_by}
+use Rattle.wb_dialog.specs.RecordLaws.{IsRecord, RecordsAreRead}
+use Rattle.wb_dialog.specs.Records.{record_of, recorded, said}
+use Rattle.wb_dialog.specs.Texts.{record_text}
+
+-- ---- a number is read from its digits
+
+digit : (b : ℕ) → digit_value b < 10 → (48 ≤ b) × (b ≤ 57) × (digit_value b + 48 ≡ b)
+digit b d = let k = digit_from_value b d in (k.0, k.1, digit_value_digit b k)
+
+number_again : (high begun : ℕ) (ds : List ℕ) → AllDigits 10 ds → digits_value_after 10 begun ds ≤ high → number_from 0 high begun ds ≡ Some (digits_value_after 10 begun ds)
+number_again high begun [] d le = grind (arith, nat_tests)
+number_again high begun (c ∷ cs) d le =
+    let k = digit c d.0 in
+    let same : 10 * begun + (c - 48) ≡ begun * 10 + digit_value c = omega (arith, k.2) in
+    grind (arith, nat_tests, k.0, k.1, same, number_again high (begun * 10 + digit_value c) cs d.1 le)
+
+moment_again : (now : ℕ) → now ≤ MAX_MOMENT → number_of 0 MAX_MOMENT (decimal now) ≡ Some now
+moment_again now le =
+    let d = decimal_is_IsNumeral now (omega (arith, le)) in
+    let some : nat_eq (length (decimal now)) 0 ≡ false = grind (arith, nat_tests, d.0.0) in
+    let value : number_from 0 MAX_MOMENT 0 (decimal now) ≡ Some (digits_value 10 (decimal now)) = number_again MAX_MOMENT 0 (decimal now) d.0.1 (omega (arith, le, d.1)) in
+    rw some (value ∙ ap Some d.1)
+
+-- ---- a run of bytes that are no spaces is one word
+
+go_on : (begun bytes : List ℕ) → All (λ b. nat_eq b 32 ≡ false) bytes → words_after begun bytes ≡ words_after (begun ++ bytes) []
+go_on begun [] none = ap (λ (t : List ℕ). words_after t []) (sym (append-nil begun))
+go_on begun (b ∷ bytes) none =
+    let other : nat_eq b 32 ≡ false = All-head (λ c. nat_eq c 32 ≡ false) b bytes none in
+    rw other (go_on (begun ++ b ∷ []) bytes (All-tail (λ c. nat_eq c 32 ≡ false) b bytes none) ∙ ap (λ (t : List ℕ). words_after t []) (append_assoc begun (b ∷ []) bytes))
+
+number_is_word : (n : ℕ) → n < 2 ^ 64 → words (decimal n) ≡ decimal n ∷ []
+number_is_word n small =
+    let some : nat_eq (length (decimal n)) 0 ≡ false = grind (arith, nat_tests, decimal_nonempty n small) in
+    go_on [] (decimal n) (decimal_lacks 32 n (omega arith) small) ∙ rw some refl
+
+-- ---- lines that are not a datagram in words, and lines that are
+
+no_kind_first : (word : List ℕ) (ws : List (List ℕ)) → is_kind word ≡ false → first_is_kind (word ∷ ws) ≡ false
+no_kind_first word [] other = refl
+no_kind_first word (next ∷ ws) other = other
+
+ticks : (rest : List ℕ) → begins_datagram (codes "tick " ++ rest) ≡ false
+unfolding is_kind
+ticks rest = no_kind_first (codes "tick") _ refl
+
+digits : (rest : List ℕ) → begins_datagram (codes "datagram " ++ rest) ≡ false
+unfolding is_kind
+digits rest = no_kind_first (codes "datagram") _ refl
+
+draws : (d : DrawopValue) → IsDrawop d → begins_datagram (spelled (Draw d)) ≡ true
+unfolding is_kind
+draws d fits = ap first_is_kind (words_spelled (Draw d) fits)
+
+-- ---- each line
+
+tick_line : (now : ℕ) → now ≤ MAX_MOMENT → script_line_of (codes "tick " ++ decimal now) ≡ Ok (lines.Call (Tick now))
+unfolding script_command tick
+tick_line now le = rw (ticks (decimal now), number_is_word now (omega (arith, le)), moment_again now le) refl
+
+recorded_as : (line : List ℕ) (words' : Bool) (command' : Command) → script_line_of line ≡ Ok command' → begins_datagram line ≡ words' → (script_line_of line >>= recorded (begins_datagram line)) ≡ recorded words' command'
+recorded_as line words' command' one two = rw (one, two) refl
+
+again : (line : RecordLine) → IsRecord line → record_of (record_text line) ≡ Ok (Some line)
+again (records.Tick now) fits = recorded_as (codes "tick " ++ decimal now) false (lines.Call (Tick now)) (tick_line now (omega (arith, fits))) (ticks (decimal now))
+again (records.Said d) fits = ap said (read_again (spelled (Draw d)) (Draw d) (fits, refl))
+again (records.Known d) fits = recorded_as (codes "datagram " ++ digits_of (Draw d)) false (lines.Arrive d) (taken (Draw d) fits).by_bytes (digits (digits_of (Draw d)))
+again (records.Strange d) fits = recorded_as (spelled (Draw d)) true (lines.Arrive d) (taken (Draw d) fits).by_words (draws d fits)
+again (records.Mark speaker page mark) fits =
+    let v : Datagram = PageState speaker page (mark ∷ []) in
+    recorded_as (spelled v) (begins_datagram (spelled v)) (handed_in v) (taken v fits).by_words refl
+
+pub records_are_read : RecordsAreRead
+records_are_read line fits = ap (λ r. r >>= λ record'. Ok (held_by record')) (again line fits)

@@ -1,0 +1,136 @@
+//! What a line does at a host that its driver drives.
+ghost use Rattle.std.specs.Prelude.{◌≡◌, ◌≤◌, [], None, Some, Ok};
+ghost use Rattle.wb_dialog.specs.Doing.{Adds, DoesOpen, LeadsOpen};
+ghost use Rattle.wb_dialog.specs.Hosting.{acts_in_script, board_after, is_acting, keep_reply, taken_by};
+ghost use Rattle.wb_dialog.specs.Kinds.{common_response, line_response};
+ghost use Rattle.wb_dialog.specs.Lines.{IsWithin};
+ghost use Rattle.wb_dialog.specs.declared.opened.Host.TheVariants as values;
+
+use crate::answering::answer;
+use crate::board::Board;
+use crate::fault::{Refusal, Unanswered};
+use crate::line::DriverLine;
+use crate::opened::Host;
+use crate::parsing::read_line;
+use std::alloc::Global;
+use wb_commands::Command;
+use wb_keeping::KeptMember;
+use wb_lines::Output;
+use wb_member::{Call, Member};
+
+/// Whether a line of a script acts on its host.
+fn acts_in_script(line: &Command) -> bool
+    ensures { result ≡ acts_in_script line.now }
+{
+    match line {
+        Command::Arrive(_) => true,
+        Command::Call(Call::Tick { .. }) => false,
+        Command::Call(_) => true,
+        _ => false,
+    }
+}
+
+/// Whether a line that is taken acts on its host: after it a host can't become self-managing.
+fn is_acting(line: &DriverLine) -> bool
+    ensures { result ≡ is_acting line.now }
+{
+    match line {
+        DriverLine::Script(line) => acts_in_script(line),
+        DriverLine::Say(_) => true,
+        DriverLine::Keep { .. } => true,
+        _ => false,
+    }
+}
+
+/// The board with which a driven host may become self-managing after a line.
+fn board_after(line: &DriverLine, board: Option<Board>) -> Option<Board>
+    ensures { result ≡ board_after line.now board }
+{
+    if is_acting(line) { None } else { board }
+}
+
+/// From now on it is self-managing, if it still has its board.
+#[tactic(auto, using(crate::proofs::KeptReplies::begins_kept, crate::proofs::KeptReplies::begins_late))]
+fn begin_to_keep(
+    member: Member,
+    board: Option<Board>,
+    rate: u32,
+    listen: u32,
+) -> (Host, Result<(), Unanswered>)
+    requires rate { 1 ≤ rate }
+    ensures { DoesOpen (values.Driven member board) result.0 [] result.1
+        (λ h. keep_reply rate listen (Some h)) }
+{
+    match board {
+        Some(board) => {
+            let seed = board.seed();
+            let kept = KeptMember::keep(member, u64::from(rate), u64::from(listen), seed);
+            (Host::Kept(kept), Ok(()))
+        }
+        None => (
+            Host::Driven {
+                member,
+                board: None,
+            },
+            Err(Unanswered::Refused(Refusal::TooLate)),
+        ),
+    }
+}
+
+/// It does what a line says that does not begin to keep it. One that acts takes its board.
+#[tactic(auto, using(crate::proofs::KeptReplies::taken_driven))]
+fn drive(
+    alloc: Global,
+    mut member: Member,
+    board: Option<Board>,
+    line: &DriverLine,
+    output: &mut Output,
+) -> (Host, Result<(), Unanswered>)
+    requires { IsWithin line.now }
+    ensures text { Adds output.old output.new (λ written.
+        DoesOpen (values.Driven member board) result.0 written result.1 (taken_by line.now)) }
+{
+    match answer(alloc, &mut member, line, output) {
+        Ok(()) => {
+            let board = board_after(line, board);
+            (Host::Driven { member, board }, Ok(()))
+        }
+        Err(fault) => (Host::Driven { member, board }, Err(fault)),
+    }
+}
+
+/// What it does for a line.
+fn take(
+    alloc: Global,
+    member: Member,
+    board: Option<Board>,
+    line: &DriverLine,
+    output: &mut Output,
+) -> (Host, Result<(), Unanswered>)
+    requires { IsWithin line.now }
+    ensures text { Adds output.old output.new (λ written. LeadsOpen (values.Driven member board)
+        result.0 written result.1 (λ tuning s. common_response tuning s (Ok line.now))) }
+{
+    if let DriverLine::Keep { rate, listen } = line {
+        return begin_to_keep(member, board, *rate, *listen);
+    }
+    drive(alloc, member, board, line, output)
+}
+
+/// What it does for a line, by its bytes: it prints, or it is refused, and then it stays as it is.
+#[tactic(auto, using(crate::proofs::EachKind::reads_driven, crate::proofs::EachKind::unread_driven))]
+pub(crate) fn take_driven(
+    alloc: Global,
+    member: Member,
+    board: Option<Board>,
+    content: &[u8],
+    output: &mut Output,
+) -> (Host, Result<(), Unanswered>)
+    ensures text { Adds output.old output.new (λ written. LeadsOpen (values.Driven member board)
+        result.0 written result.1 (λ tuning s. line_response tuning s content.now)) }
+{
+    match read_line(alloc, content) {
+        Ok(line) => take(alloc, member, board, &line, output),
+        Err(fault) => (Host::Driven { member, board }, Err(fault)),
+    }
+}

@@ -1,5 +1,0 @@
-use Rattle.wb_judged_dialog.proofs.MemberLaws.{judged_is_kept}
-use Rattle.wb_judged_dialog.proofs.laws.judged_hosts_are_kept.Goals as goal
-
-pub returns : goal.returns
-returns c = judged_is_kept

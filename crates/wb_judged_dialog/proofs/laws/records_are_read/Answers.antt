@@ -1,5 +1,0 @@
-use Rattle.wb_judged_dialog.proofs.RecordLines.{records_are_read}
-use Rattle.wb_judged_dialog.proofs.laws.records_are_read.Goals as goal
-
-pub returns : goal.returns
-returns c = records_are_read

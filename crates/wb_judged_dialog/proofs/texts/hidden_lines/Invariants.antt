@@ -1,6 +1,0 @@
-use Rattle.std.proofs.Common.{◌≡◌, take, flat_map}
-use Rattle.wb_judged_dialog.specs.Texts.{hidden_line}
-use Rattle.wb_judged_dialog.proofs.texts.hidden_lines.Given as goal
-
-abbrev pub invariant-loop-target : goal.invariant-loop-target
-invariant-loop-target l = l.text.items ≡ flat_map hidden_line (take l.target-index l.hidden)
