@@ -19,7 +19,7 @@ from live.options import read_options
 from live.presence import Pointed, write
 from live.state import lock
 from ..facts import Facts
-from .members import TOP, Process
+from .members import TOP, Process, comes
 from .test_carriers import HAS_SEALS, HOME, Kept, Wire, fault_of
 from .attacks.test_forgeries import now
 from .attacks.test_hostile import Attacker, asking, deleting, drawn, framed, session, state
@@ -143,6 +143,23 @@ def test_another_user(facts: Facts, home: Dict[str, str]) -> None:
 
 
 # ---- strangers
+
+
+def test_read(facts: Facts, home: Dict[str, str], tmp_path: Path) -> None:
+    """Whoever hears an open board reads it, and one whose key tags; under a key that seals nobody does."""
+    (tmp_path / "key").touch(0o600)
+    (tmp_path / "key").write_text(new_key() + "\n")
+    ways = [("an open board", ["--open"], True), ("a key that tags", [], True), ("a key that seals", ["--key", str(tmp_path / "key")], False)]
+    for name, words, is_read in ways if HAS_SEALS else ways[:2]:
+        ear = Ear(0, FIRST_PORT)
+        member = started(home, *words)
+        try:
+            facts("%s: one draws" % name, member.draw("1/1", 'text 0 0 "what is drawn"')[0], 200)
+            reads = comes(lambda: any(b"what is drawn" in data for data, _ in ear.heard), SOON if is_read else WHILE)
+            facts("%s: it is read" % name, (reads, len(ear.heard) > 0), (is_read, True))
+        finally:
+            ear.end()
+            facts("%s: it ends with 0" % name, member.end(), 0)
 
 
 def noise(victims: List[int], chance: random.Random) -> List[bytes]:

@@ -528,6 +528,28 @@ def test_options(facts: Facts) -> None:
     facts("no page, so the terminal", (read_options(["--no-web"]).web, read_options(["--no-web"]).terminal), (None, True))
 
 
+# what a promise of docs/SECURITY.md is called in its tables, by the head of its column
+PROMISES = {"your drawings are secret": "secret", "you can draw": "you can draw", "drawings arrive": "drawings arrive", "the board has room": "room",
+            "nobody draws as you": "nobody draws as you|names", "the last lies on top": "the last lies on top|order", "your machine is safe": "your machine"}
+
+
+def test_promises(facts: Facts) -> None:
+    """Each answer of the first table of docs/SECURITY.md has a row in the table of that section, which names a test; where it is *no*, the row says so."""
+    glance, *sections = re.split(r"^## ", (TOP / "docs" / "SECURITY.md").read_text(), flags=re.MULTILINE)[1:]
+    head, _, *rows = [[cell.strip() for cell in line.strip("|").split("|")] for line in glance.split("\n") if line.startswith("|")]
+    named = {re.sub(r"[^a-z]+", "-", section.split("\n")[0].lower()): section for section in sections}
+    wanted, lacking = 0, []
+    for against, *cells in rows:
+        lines = [line for line in named[re.findall(r"\(#([a-z-]+)\)", against)[0]].split("\n") if line.startswith("| ") and "`" in line or " the table" in line]
+        promises = [line.split("|")[1].strip() for line in lines]
+        told = list(zip([next((each for each in reversed(promises[:at + 1]) if each), "") for at in range(len(lines))], lines))
+        for column, cell in zip(head[1:], cells):
+            its = [line for promise, line in told if re.search(PROMISES[column], promise) or promise == "all others"]
+            wanted += cell != "-"
+            lacking += [(against, column)] * (cell != "-" and not any("| no: " in line for line in its) if cell == "no" else cell != "-" and not its)
+    facts("each answer is seen by a test", (lacking, wanted), ([], 40))
+
+
 def test_security(facts: Facts) -> None:
     """Each test that docs/SECURITY.md names exists."""
     named = sorted(set(re.findall(r"`([a-z_]+)\.((?:test|check)\w+)`", (TOP / "docs" / "SECURITY.md").read_text())))
