@@ -15,7 +15,7 @@ from .model import UNKNOWN_DELAY, Drawop, Model, Name
 SECOND = 1_000_000
 COST = 250_000
 NAMES = 64
-BEFORE_TURNS = 56  # turns pass over what is asked for while fewer timers run
+BEFORE_TURNS = 56  # turns pass over what is asked for while fewer timers that are not old run
 STRANGERS = 48  # places of the credit for neighbours of what came, where their source told no delay
 REACH = 64
 STRIDE = 19
@@ -328,8 +328,9 @@ class Kept:
         return self.want(Name(source, page, first + STRIDE * self.leaps % (last - first + 1)), True)
 
     def turns_past(self) -> None:
-        """Turns, up to the first name that is asked for, if a place of the credit is left and few timers run."""
-        if max(self.owed, self.host.now) - self.host.now <= (NAMES - 1) * COST and len(self.asked()) < BEFORE_TURNS:
+        """Turns, up to the first name that is asked for, if a place of the credit is left and few timers that are not old run."""
+        young = sum(self.level(name) < OLD for name in self.asked())
+        if max(self.owed, self.host.now) - self.host.now <= (NAMES - 1) * COST and young < BEFORE_TURNS:
             any(self.turn() for _ in range(NAMES + 1))
 
     def turn(self) -> bool:

@@ -27,7 +27,7 @@ use Rattle.wb_policy.specs.Leaps.{far_name}
 use Rattle.wb_policy.specs.Questions.{is_due, is_to_answer}
 use Rattle.wb_policy.specs.Reports.{is_telling, page_after, rest_after, slice_after}
 use Rattle.wb_policy.specs.Turns.{name_in, nowhere}
-use Rattle.wb_policy.specs.Wanting.{passes_on}
+use Rattle.wb_policy.specs.Wanting.{passes_on, young_count}
 use Rattle.wb_policy.specs.declared.leaps.Leaps.{Leaps}
 use Rattle.wb_policy.specs.declared.turns.Turns.{Turns}
 use Rattle.wb_policy.specs.declared.wanting.AskedName.{AskedName}
@@ -239,7 +239,7 @@ module _ (R : Keeping → List Line → Keeping → Type 0) (is : HoldsOfDue R) 
 
   pub turns_past_hold : Holds R turns_past
   turns_past_hold k =
-      either (HoldsOf R k) (passes_on (length (view_of k.host).asked) k.policy.owed (present k.host)) (turns_on 65 (sees k.host) k.policy) (still (sees k.host) k.policy) (λ paid. turns_on_hold 65 k) (λ unpaid. is.nothing k)
+      either (HoldsOf R k) (passes_on (young_count (view_of k.host).asked) k.policy.owed (present k.host)) (turns_on 65 (sees k.host) k.policy) (still (sees k.host) k.policy) (λ paid. turns_on_hold 65 k) (λ unpaid. is.nothing k)
 
   -- ---- what is due
 

@@ -159,11 +159,12 @@ impl Policy {
         self.credit.repay();
     }
 
-    /// Whether turns pass over what is asked for, while `timers` request timers stand.
-    pub fn passes_on(&self, timers: usize, now: u64) -> bool
-        ensures { result ≡ passes_on timers self.now.owed now }
+    /// Whether turns pass over what is asked for, while `young` request timers that are not old
+    /// stand.
+    pub fn passes_on(&self, young: usize, now: u64) -> bool
+        ensures { result ≡ passes_on young self.now.owed now }
     {
-        timers < TIMERS_BEFORE_TURNS && self.credit.is_left(true, now)
+        young < TIMERS_BEFORE_TURNS && self.credit.is_left(true, now)
     }
 
     /// The next hole in turn begins after this number of this source on this page.
