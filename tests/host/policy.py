@@ -26,6 +26,8 @@ STEADINESS = 128
 ECHOES = 32
 MARKS = 64
 PAGES = 64
+STATE_BYTES = 534  # the most of a page state
+LONGEST_PAUSE = 64 * SECOND
 OURS = 1 << 31
 AHEAD = 2 * 86_400 * SECOND
 GONE = 192 * SECOND
@@ -198,7 +200,7 @@ class Kept:
                 if self.own(marks):
                     self.host.page_state(sender, page, self.own(marks))
                 self.ask_at = self.answer_at = None
-                self.quiet = self.host.now + SECOND
+                self.quiet = max(self.quiet, self.host.now + SECOND)
                 self.heed(page, marks)
             case Request(asker, name) if asker != me:
                 with self.lent(asker if name in self.host.held else name.source):
@@ -353,8 +355,10 @@ class Kept:
     def timed(self) -> None:
         now = self.host.now
         if self.answer_at is not None and self.answer_at <= now:
-            self.answer_at, self.quiet = None, now + SECOND
-            for page in self.host.drawn_on()[:PAGES]:
+            pages = self.host.drawn_on()[:PAGES]
+            paid = len(pages) * STATE_BYTES * SECOND // self.rate
+            self.answer_at, self.quiet = None, now + min(max(paid, SECOND), LONGEST_PAUSE)
+            for page in pages:
                 self.send(datagrams.page_state(self.host.me, page, self.host.highest(page)[:MARKS]))
         if self.ask_at is not None and self.ask_at <= now:
             self.send(datagrams.ask_pages(self.host.me))

@@ -400,6 +400,27 @@ def test_sleeping() -> None:
     assert sent[True] - sent[False] == {f"send {datagrams.request(ME, 20, PAGE, 10)}"}, "a number that has its turn is asked for"
 
 
+def test_states() -> None:
+    """Page states are paid for by the rate, 534 bytes each: before that no question is taken up. It takes a second at least, and 64 at most."""
+    question = datagrams.ask_pages(9)
+    for rate, pause in (4000, 8_544_000), (40_000, 1_000_000), (400, 64_000_000):
+        for early in 1, 0:
+            dialog = Dialog()
+            for line in f"board {ME} 100 1 {SEED}", f"keep {rate} 0", *(f"came 0 {dot(7, (7, page), 1)}" for page in range(1, 65)):
+                dialog.ask(line)
+            block, moment, answers = dialog.ask(f"came 1000 {question}"), 1000, list[int]()
+            while moment < 66_000_000:
+                if "send 57420105" in block:
+                    answers.append(moment)
+                    assert block.count("send 57420105") == 64, "each answer has all pages"
+                due = int(block.splitlines()[-1].removeprefix("ok "))
+                again = answers[0] + pause - early if len(answers) == 1 else due
+                moment = min(due, again) if moment < again else due
+                block = dialog.ask(f"came {moment} {question}" if moment == again and len(answers) == 1 else f"tick {moment}")
+            dialog.end()
+            assert len(answers) == (1 if early else 2), f"at {rate} bytes a second, {early} microseconds before the pause is over"
+
+
 def test_holes() -> None:
     """Sixty forged drawops a second, each of another source and behind a number that nobody holds: what a member reports meanwhile is asked for
     all the same, since neighbours of sources that told no delay leave sixteen places of the credit."""

@@ -176,7 +176,7 @@ module _ (P : Line → Type 0) (is : OfPolicy P) where
   answers_each see p =
       let v = see [] in
       let pages = take 64 (pages_of v.held) in
-      choose P (is_due v.now p.questions.answer) (record { policy = after_answer v.now p; lines = map (λ (page : PageId). Says (state_of v page)) pages })
+      choose P (is_due v.now p.questions.answer) (record { policy = after_answer v.now (length (take 64 (pages_of v.held))) p; lines = map (λ (page : PageId). Says (state_of v page)) pages })
       (still see p) (states_each P v (is.states v) pages) tt
 
   pub asks_pages_each : DoesEach P asks_pages

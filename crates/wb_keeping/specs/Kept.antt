@@ -160,8 +160,9 @@ state_of v page = PageState v.me page (slice_after None (report_of v.held page))
 abbrev pub answers : Transition
 answers see p =
     let v = see [] in
+    let pages = take MOST_PAGES (pages_of v.held) in
     if is_due v.now p.questions.answer
-    then record { policy = after_answer v.now p; lines = map (λ page. Says (state_of v page)) (take MOST_PAGES (pages_of v.held)) }
+    then record { policy = after_answer v.now (length pages) p; lines = map (λ page. Says (state_of v page)) pages }
     else still see p
 
 abbrev pub asks_pages : Transition

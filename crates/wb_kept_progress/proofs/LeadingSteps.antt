@@ -442,7 +442,7 @@ past_leads k answers_held asks = by (passes_on (young_count (view_of k.host).ask
 answers_stay : (k : Keeping) → (after_doing answers k).host ≡ k.host
 answers_stay k = by (is_due (present k.host) k.policy.questions.answer) where
   by : (b : Bool)
-      → (having_done (cond b (doing (after_answer (present k.host) k.policy) (map (λ (page : PageId). Says (state_of (view_of k.host) page)) (take 64 (pages_of k.host.is.held)))) (still (sees k.host) k.policy)) k).host ≡ k.host
+      → (having_done (cond b (doing (after_answer (present k.host) (length (take 64 (pages_of k.host.is.held))) k.policy) (map (λ (page : PageId). Says (state_of (view_of k.host) page)) (take 64 (pages_of k.host.is.held)))) (still (sees k.host) k.policy)) k).host ≡ k.host
   by true = says_after (view_of k.host) (take 64 (pages_of k.host.is.held)) k.host
   by false = refl
 

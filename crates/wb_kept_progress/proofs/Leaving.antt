@@ -52,7 +52,7 @@ either p false x y l m = m
 pub answers_leave : (see : List Line → View) (p : Policy) → Leaves p (answers see p).policy
 answers_leave see p =
     let v = see [] in
-    either p (is_due v.now p.questions.answer) (record { policy = after_answer v.now p; lines = map (λ (page : PageId). Says (state_of v page)) (take 64 (pages_of v.held)) }) (still see p)
+    either p (is_due v.now p.questions.answer) (record { policy = after_answer v.now (length (take 64 (pages_of v.held))) p; lines = map (λ (page : PageId). Says (state_of v page)) (take 64 (pages_of v.held)) }) (still see p)
     (record { turns = refl; owed = refl; due = refl; beat = refl; told = refl }) (record { turns = refl; owed = refl; due = refl; beat = refl; told = refl })
 
 pub asks_leave : (see : List Line → View) (p : Policy) → Leaves p (asks_pages see p).policy

@@ -18,7 +18,7 @@ use crate::delays::Delays;
 use crate::leaps::Leaps;
 use crate::limits::{ANSWER, FIRST_QUESTION, FIRST_REPORT, STREAM, TIMERS_BEFORE_TURNS};
 use crate::pace::Pace;
-use crate::questions::Questions;
+use crate::questions::{Questions, answer_pause};
 use crate::reports::{Reports, is_telling};
 use crate::turns::Turns;
 use crate::wanting::Candidate;
@@ -267,16 +267,19 @@ impl Policy {
     }
 
     /// Whether it is to answer with its pages now.
-    pub fn answers(&mut self, now: u64) -> bool
-        requires { IsMoment now }
-        ensures due { result ≡ is_due now self.old.questions.answer }
-        ensures after { self.new ≡ (if result then after_answer now self.old else self.old) }
+    pub fn is_to_answer(&self, now: u64) -> bool
+        ensures { result ≡ is_due now self.now.questions.answer }
     {
-        if !self.questions.is_to_answer(now) {
-            return false;
-        }
-        self.questions.answered(now);
-        true
+        self.questions.is_to_answer(now)
+    }
+
+    /// It answered by some page states, which are paid for by the rate of reports.
+    pub fn answered(&mut self, now: u64, states: usize)
+        requires { IsMoment now }
+        ensures { self.new ≡ after_answer now states self.old }
+    {
+        let pause = answer_pause(self.reports.rate, states);
+        self.questions.answered(now, pause);
     }
 
     /// Another member sent a page state.
