@@ -15,7 +15,7 @@ from .model import UNKNOWN_DELAY, Drawop, Model, Name
 SECOND = 1_000_000
 COST = 250_000
 NAMES = 64
-BEFORE_TURNS = 56  # turns pass over what is asked for while fewer timers run
+BEFORE_TURNS = 56  # turns pass over what is asked for while fewer timers that are not old run
 STRANGERS = 48  # places of the credit for neighbours of what came, where their source told no delay
 REACH = 64
 STRIDE = 19
@@ -26,6 +26,8 @@ STEADINESS = 128
 ECHOES = 32
 MARKS = 64
 PAGES = 64
+STATE_BYTES = 534  # the most of a page state
+LONGEST_PAUSE = 64 * SECOND
 OURS = 1 << 31
 AHEAD = 2 * 86_400 * SECOND
 GONE = 192 * SECOND
@@ -198,7 +200,7 @@ class Kept:
                 if self.own(marks):
                     self.host.page_state(sender, page, self.own(marks))
                 self.ask_at = self.answer_at = None
-                self.quiet = self.host.now + SECOND
+                self.quiet = max(self.quiet, self.host.now + SECOND)
                 self.heed(page, marks)
             case Request(asker, name) if asker != me:
                 with self.lent(asker if name in self.host.held else name.source):
@@ -328,8 +330,9 @@ class Kept:
         return self.want(Name(source, page, first + STRIDE * self.leaps % (last - first + 1)), True)
 
     def turns_past(self) -> None:
-        """Turns, up to the first name that is asked for, if a place of the credit is left and few timers run."""
-        if max(self.owed, self.host.now) - self.host.now <= (NAMES - 1) * COST and len(self.asked()) < BEFORE_TURNS:
+        """Turns, up to the first name that is asked for, if a place of the credit is left and few timers that are not old run."""
+        young = sum(self.level(name) < OLD for name in self.asked())
+        if max(self.owed, self.host.now) - self.host.now <= (NAMES - 1) * COST and young < BEFORE_TURNS:
             any(self.turn() for _ in range(NAMES + 1))
 
     def turn(self) -> bool:
@@ -352,8 +355,10 @@ class Kept:
     def timed(self) -> None:
         now = self.host.now
         if self.answer_at is not None and self.answer_at <= now:
-            self.answer_at, self.quiet = None, now + SECOND
-            for page in self.host.drawn_on()[:PAGES]:
+            pages = self.host.drawn_on()[:PAGES]
+            paid = len(pages) * STATE_BYTES * SECOND // self.rate
+            self.answer_at, self.quiet = None, now + min(max(paid, SECOND), LONGEST_PAUSE)
+            for page in pages:
                 self.send(datagrams.page_state(self.host.me, page, self.host.highest(page)[:MARKS]))
         if self.ask_at is not None and self.ask_at <= now:
             self.send(datagrams.ask_pages(self.host.me))

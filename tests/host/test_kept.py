@@ -382,6 +382,45 @@ def test_owed() -> None:
         assert (wanted in block.splitlines()) == (moment == 250_000), f"it is asked for anew at {moment}"
 
 
+def test_sleeping() -> None:
+    """Sixty-four timers of numbers that nobody holds are old. One that is reported comes: of what was not asked for yet, that which has its turn is
+    asked for then, beside what a leap asks for."""
+    dialog, moment = Dialog(), 9_500_000
+    opening = f"board {ME} 1000 1 {SEED}", "keep 4000 0", f"came 50 {session(20, 9, PAGE, [], [(ME, 10, 20)])}", f"came 50 {dot(20, PAGE, 200)}"
+    reported = f"came {moment} {session(9, 50, (7, 3), [(9, 1)], [])}", f"came {moment} {dot(9, (7, 3), 1)}"
+    sent: dict[bool, set[str]] = {}
+    for lines, until in (opening, moment), (reported, moment + 90_000):
+        block, requests = "".join(dialog.ask(line) for line in lines), set[str]()
+        while (due := int(block.splitlines()[-1].removeprefix("ok "))) < until:
+            block = dialog.ask(f"tick {due}")
+            requests |= {line for line in block.splitlines() if line.startswith("send 57420103")}
+        sent[lines is reported] = requests
+    dialog.end()
+    assert len(sent[False]) > 64, "so many were asked for before"
+    assert sent[True] - sent[False] == {f"send {datagrams.request(ME, 20, PAGE, 10)}"}, "a number that has its turn is asked for"
+
+
+def test_states() -> None:
+    """Page states are paid for by the rate, 534 bytes each: before that no question is taken up. It takes a second at least, and 64 at most."""
+    question = datagrams.ask_pages(9)
+    for rate, pause in (4000, 8_544_000), (40_000, 1_000_000), (400, 64_000_000):
+        for early in 1, 0:
+            dialog = Dialog()
+            for line in f"board {ME} 100 1 {SEED}", f"keep {rate} 0", *(f"came 0 {dot(7, (7, page), 1)}" for page in range(1, 65)):
+                dialog.ask(line)
+            block, moment, answers = dialog.ask(f"came 1000 {question}"), 1000, list[int]()
+            while moment < 66_000_000:
+                if "send 57420105" in block:
+                    answers.append(moment)
+                    assert block.count("send 57420105") == 64, "each answer has all pages"
+                due = int(block.splitlines()[-1].removeprefix("ok "))
+                again = answers[0] + pause - early if len(answers) == 1 else due
+                moment = min(due, again) if moment < again else due
+                block = dialog.ask(f"came {moment} {question}" if moment == again and len(answers) == 1 else f"tick {moment}")
+            dialog.end()
+            assert len(answers) == (1 if early else 2), f"at {rate} bytes a second, {early} microseconds before the pause is over"
+
+
 def test_holes() -> None:
     """Sixty forged drawops a second, each of another source and behind a number that nobody holds: what a member reports meanwhile is asked for
     all the same, since neighbours of sources that told no delay leave sixteen places of the credit."""

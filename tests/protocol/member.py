@@ -18,7 +18,7 @@ HEARD, FRESH, GONE = 192 * SECOND, 256 * SECOND, 600 * SECOND
 UNKNOWN_DELAY, DELAY_LIMIT, HOLD_DOWNS = 100_000, 1 << 24, 3
 C1, C2, D1, D2 = 2, 2, 1, 1
 MOST_LEVEL, OLD_LEVEL = 16, 4
-MOST_TIMERS, MOST_MARKS, MOST_ECHOES, MOST_PAGES = 64, 64, 32, 64
+MOST_TIMERS, MOST_MARKS, MOST_ECHOES, MOST_PAGES, STATE_BYTES = 64, 64, 32, 64, 534
 FIRST_FORGED, MOST_ABOVE = 1 << 31, 65_537
 
 Report = Union[SessionMessage, PageState]
@@ -162,7 +162,7 @@ class Member:
         if not self.is_believed(now, it, origin):
             return
         if isinstance(it, PageState):
-            self.ask_at, self.answer_at, self.quiet_until = None, None, now + SECOND
+            self.ask_at, self.answer_at, self.quiet_until = None, None, max(self.quiet_until, now + SECOND)
         else:
             self.heard[it.sender] = it.sent, now
             for echo in it.echoes:
@@ -263,8 +263,9 @@ class Member:
                 self.held_down[name] = now + HOLD_DOWNS * repair.delay
                 sent.append(self.held[name.page][name.source, name.seq])
         if self.answer_at is not None and self.answer_at <= now:
-            self.answer_at, self.quiet_until = None, now + SECOND
-            sent += [PageState(self.number, page, self.marks(page)[:MOST_MARKS]) for page in sorted(self.held)[:MOST_PAGES]]
+            pages = sorted(self.held)[:MOST_PAGES]
+            self.answer_at, self.quiet_until = None, now + min(max(len(pages) * STATE_BYTES * SECOND // RATE, SECOND), LONGEST)
+            sent += [PageState(self.number, page, self.marks(page)[:MOST_MARKS]) for page in pages]
         if self.ask_at is not None and self.ask_at <= now:
             self.ask_at = now + self.ask_wait // 2 + self.chance(self.ask_wait)
             self.ask_wait = min(2 * self.ask_wait, LONGEST)

@@ -91,7 +91,7 @@ steps_go_on = record {
     beats = λ k is. record { later = le_refl (present k.host); due = inl refl };
     answers = λ k is.
         let lines = map (λ page. Says (state_of (view_of k.host) page)) (take 64 (pages_of k.host.is.held)) in
-        goes_on k (having_done (doing (after_answer (present k.host) k.policy) lines) k) lines (ap present (says_after (view_of k.host) (take 64 (pages_of k.host.is.held)) k.host)) refl;
+        goes_on k (having_done (doing (after_answer (present k.host) (length (take 64 (pages_of k.host.is.held))) k.policy) lines) k) lines (ap present (says_after (view_of k.host) (take 64 (pages_of k.host.is.held)) k.host)) refl;
     asks_pages = λ k is. record { later = le_refl (present k.host); due = inl refl };
     reports = λ page until told k is. record { later = le_refl (present k.host); due = inr (refl, next_soon (present k.host) _ (word_of k.policy.words)) };
   };

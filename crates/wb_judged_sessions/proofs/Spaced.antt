@@ -144,7 +144,7 @@ wants_space name anew k =
       by false = refl
 
 answers_space : (k : Keeping) → let lines = map (λ page. Says (state_of (view_of k.host) page)) (take 64 (pages_of k.host.is.held)) in
-    Spaces k lines (having_done (doing (after_answer (present k.host) k.policy) lines) k)
+    Spaces k lines (having_done (doing (after_answer (present k.host) (length (take 64 (pages_of k.host.is.held))) k.policy) lines) k)
 answers_space k =
     quietly k _ _ (states_each (SaysOnly IsNoReport) (view_of k.host) (λ page. tt) (take 64 (pages_of k.host.is.held))) refl
     (at_once _ _ (ap present (says_after (view_of k.host) (take 64 (pages_of k.host.is.held)) k.host))) refl

@@ -19,7 +19,7 @@ use Rattle.wb_policy.specs.Leaps.{far_name}
 use Rattle.wb_policy.specs.Questions.{is_due, is_to_answer}
 use Rattle.wb_policy.specs.Reports.{rest_after}
 use Rattle.wb_policy.specs.Turns.{name_in, nowhere}
-use Rattle.wb_policy.specs.Wanting.{giving_way, passes_on}
+use Rattle.wb_policy.specs.Wanting.{giving_way, passes_on, young_count}
 use Rattle.wb_policy.specs.declared.wanting.AskedName.{AskedName}
 use Rattle.wb_keeping.proofs.Wanted.{is_wanted_here, lines_wanted, near_here, with_room_done}
 use Rattle.wb_codec.specs.declared.datagram.Datagram.{Datagram}
@@ -150,7 +150,7 @@ module _ (P : Line → Type 0) (is : OfPolicy P) where
       (then_each P turn (turns_on more) turn_each (turns_on_each more) see p)
 
   past_each : DoesEach P turns_past
-  past_each see p = choose P (passes_on (length (see []).asked) p.owed (see []).now) (turns_on 65 see p) (still see p) (turns_on_each 65 see p) tt
+  past_each see p = choose P (passes_on (young_count (see []).asked) p.owed (see []).now) (turns_on 65 see p) (still see p) (turns_on_each 65 see p) tt
 
   turn_if_each : (was : Bool) → DoesEach P (turn_if was)
   turn_if_each true see p = then_each P (leaps_on 65) turns_past (leaps_on_each 65) past_each see p
@@ -176,7 +176,7 @@ module _ (P : Line → Type 0) (is : OfPolicy P) where
   answers_each see p =
       let v = see [] in
       let pages = take 64 (pages_of v.held) in
-      choose P (is_due v.now p.questions.answer) (record { policy = after_answer v.now p; lines = map (λ (page : PageId). Says (state_of v page)) pages })
+      choose P (is_due v.now p.questions.answer) (record { policy = after_answer v.now (length (take 64 (pages_of v.held))) p; lines = map (λ (page : PageId). Says (state_of v page)) pages })
       (still see p) (states_each P v (is.states v) pages) tt
 
   pub asks_pages_each : DoesEach P asks_pages

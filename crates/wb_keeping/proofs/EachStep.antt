@@ -27,7 +27,7 @@ use Rattle.wb_policy.specs.Leaps.{far_name}
 use Rattle.wb_policy.specs.Questions.{is_due, is_to_answer}
 use Rattle.wb_policy.specs.Reports.{is_telling, page_after, rest_after, slice_after}
 use Rattle.wb_policy.specs.Turns.{name_in, nowhere}
-use Rattle.wb_policy.specs.Wanting.{passes_on}
+use Rattle.wb_policy.specs.Wanting.{passes_on, young_count}
 use Rattle.wb_policy.specs.declared.leaps.Leaps.{Leaps}
 use Rattle.wb_policy.specs.declared.turns.Turns.{Turns}
 use Rattle.wb_policy.specs.declared.wanting.AskedName.{AskedName}
@@ -57,7 +57,7 @@ pub record HoldsOfDue (R : Keeping → List Line → Keeping → Type 0) : Type 
   pub turned : (t : Turns) (l : Leaps) (k : Keeping) → R k [] (with_policy (record k.policy { turns = t; leaps = l }) k)
   pub beats : (k : Keeping) → nat_le k.policy.pace.due (present k.host) ≡ true → R k [] (with_policy (after_beat (present k.host) k.policy) k)
   pub answers : (k : Keeping) → is_due (present k.host) k.policy.questions.answer ≡ true
-      → R k (map (λ page. Says (state_of (view_of k.host) page)) (take 64 (pages_of k.host.is.held))) (having_done (doing (after_answer (present k.host) k.policy) (map (λ page. Says (state_of (view_of k.host) page)) (take 64 (pages_of k.host.is.held)))) k)
+      → R k (map (λ page. Says (state_of (view_of k.host) page)) (take 64 (pages_of k.host.is.held))) (having_done (doing (after_answer (present k.host) (length (take 64 (pages_of k.host.is.held))) k.policy) (map (λ page. Says (state_of (view_of k.host) page)) (take 64 (pages_of k.host.is.held)))) k)
   pub asks_pages : (k : Keeping) → is_due (present k.host) k.policy.questions.ask ≡ true → R k (Says (AskPages k.host.is.number) ∷ []) (with_policy (after_question (present k.host) k.policy) k)
   pub reports : (page : PageId) (until : ℕ) (told : Option ℕ) (k : Keeping) → nat_le k.policy.reports.due (present k.host) ≡ true
       → R k (reports_page page until (slice_after told (report_of k.host.is.held page)) (sees k.host) k.policy).lines (after_doing (reports_page page until (slice_after told (report_of k.host.is.held page))) k)
@@ -239,14 +239,14 @@ module _ (R : Keeping → List Line → Keeping → Type 0) (is : HoldsOfDue R) 
 
   pub turns_past_hold : Holds R turns_past
   turns_past_hold k =
-      either (HoldsOf R k) (passes_on (length (view_of k.host).asked) k.policy.owed (present k.host)) (turns_on 65 (sees k.host) k.policy) (still (sees k.host) k.policy) (λ paid. turns_on_hold 65 k) (λ unpaid. is.nothing k)
+      either (HoldsOf R k) (passes_on (young_count (view_of k.host).asked) k.policy.owed (present k.host)) (turns_on 65 (sees k.host) k.policy) (still (sees k.host) k.policy) (λ paid. turns_on_hold 65 k) (λ unpaid. is.nothing k)
 
   -- ---- what is due
 
   answers_hold : Holds R answers
   answers_hold k =
       let lines = map (λ page. Says (state_of (view_of k.host) page)) (take 64 (pages_of k.host.is.held)) in
-      either (HoldsOf R k) (is_due (present k.host) k.policy.questions.answer) (doing (after_answer (present k.host) k.policy) lines) (still (sees k.host) k.policy) (is.answers k) (λ later. is.nothing k)
+      either (HoldsOf R k) (is_due (present k.host) k.policy.questions.answer) (doing (after_answer (present k.host) (length (take 64 (pages_of k.host.is.held))) k.policy) lines) (still (sees k.host) k.policy) (is.answers k) (λ later. is.nothing k)
 
   asks_pages_hold : Holds R asks_pages
   asks_pages_hold k =

@@ -19,6 +19,7 @@ pub mod StayStanding
 pub mod FewTimers
 pub mod LittleSaid
 pub mod OwedStands
+pub mod PaidStates
 pub mod TakenTurns
 pub mod ToldReports
 pub mod WantedNames

@@ -24,7 +24,7 @@ use Rattle.wb_keeping.specs.Laws.{AreTaken, KeptLine, after_kept, expand}
 use Rattle.wb_keeping.specs.Performing.{Keeping, after_doing, after_line, after_lines, sees, view_of}
 use Rattle.wb_policy.specs.Policy.{Policy, after_answer, after_came, after_drawing, after_question, after_state, after_taking_up, after_wanting, draws}
 use Rattle.wb_keeping.specs.Views.{View, holds, is_asked, is_full, level, is_known}
-use Rattle.wb_policy.specs.Questions.{answered_at, heard_at, is_due, is_to_answer, to_answer}
+use Rattle.wb_policy.specs.Questions.{answer_pause, answered_at, heard_at, is_due, is_to_answer, to_answer}
 use Rattle.wb_policy.specs.Reports.{mean_time, members_in, slice_after}
 use Rattle.wb_policy.specs.Wanting.{is_wanted}
 use Rattle.wb_policy.specs.declared.questions.Questions.{Questions}
@@ -107,7 +107,7 @@ answers_both : (one other : List Line) (host : Opened) → answer_count (one ++ 
 answers_both [] other host = omega arith
 answers_both (line ∷ one) other host = let rest = answers_both one other (after_line line host) in omega (arith, rest)
 
-counted : (p : Line → Bool) (one other : List Line) → length (filter p (one ++ other)) ≡ length (filter p one) + length (filter p other)
+pub counted : (p : Line → Bool) (one other : List Line) → length (filter p (one ++ other)) ≡ length (filter p one) + length (filter p other)
 counted p one other = ap (λ (ls : List Line). length ls) (filter-append p one other) ∙ length-append (filter p one) (filter p other)
 
 both_keep : (k m n : Keeping) (one other : List Line) → Keeps k one m → Keeps m other n → Keeps k (one ++ other) n
@@ -392,16 +392,19 @@ says_nothing_else : (v : View) (pages : List PageId) (host : Opened) → (ask_co
 says_nothing_else v [] host = (refl, refl, refl, refl)
 says_nothing_else v (page ∷ pages) host = let n = says_nothing_else v pages host in let c = n.1 in (n.0, omega (arith, c), n.2, n.3)
 
-says_each : (v : View) (pages : List PageId) → length (filter is_state (map (λ (page : PageId). Says (state_of v page)) pages)) ≡ length pages
+pub says_each : (v : View) (pages : List PageId) → length (filter is_state (map (λ (page : PageId). Says (state_of v page)) pages)) ≡ length pages
 says_each v [] = refl
 says_each v (page ∷ pages) = ap suc (says_each v pages)
 
-due_moment : (now : ℕ) (o : Option ℕ) (P : ℕ → Type 0) → is_due now o ≡ true → IfSome o P → (moment : ℕ) × (moment ≤ now) × P moment
+pub due_moment : (now : ℕ) (o : Option ℕ) (P : ℕ → Type 0) → is_due now o ≡ true → IfSome o P → (moment : ℕ) × (moment ≤ now) × P moment
 due_moment now None P due holds_of = absurd (true≢false (sym due))
 due_moment now (Some moment) P due holds_of = (moment, leb-true _ _ due, holds_of)
 
+pause_long : (rate states : ℕ) → 1000000 ≤ answer_pause rate states
+pause_long rate states = omega arith
+
 answers_keep : (k : Keeping) → is_due (present k.host) k.policy.questions.answer ≡ true
-    → Keeps k (map (λ page. Says (state_of (view_of k.host) page)) (take 64 (pages_of k.host.is.held))) (having_done (doing (after_answer (present k.host) k.policy) (map (λ page. Says (state_of (view_of k.host) page)) (take 64 (pages_of k.host.is.held)))) k)
+    → Keeps k (map (λ page. Says (state_of (view_of k.host) page)) (take 64 (pages_of k.host.is.held))) (having_done (doing (after_answer (present k.host) (length (take 64 (pages_of k.host.is.held))) k.policy) (map (λ page. Says (state_of (view_of k.host) page)) (take 64 (pages_of k.host.is.held)))) k)
 answers_keep k due = record {
   at = refl;
   within = λ start wait c d up w.
@@ -422,15 +425,17 @@ answers_keep k due = record {
       let q = up.questions in
       let since = w.paid.after in
       let m = due_moment now k.policy.questions.answer _ due w.answered.answer in
-      let spaced = one_spaced start now m.0 1000000 (w.bursts * 1000000) (now + 1000000) since m.1 (omega arith) m.2 in
+      let pause = answer_pause k.policy.reports.rate (length pages) in
+      let long = pause_long k.policy.reports.rate (length pages) in
+      let spaced = one_spaced start now m.0 1000000 (w.bursts * 1000000) (now + pause) since m.1 (omega (arith, long)) m.2 in
       let old = w.few in
-      subst (λ (h : Opened). IsWithin start wait (present h) k.policy.owed k.policy.reports.due (answered_at now k.policy.questions) d) (sym (says_after v pages k.host)) (record {
+      subst (λ (h : Opened). IsWithin start wait (present h) k.policy.owed k.policy.reports.due (answered_at now pause k.policy.questions) d) (sym (says_after v pages k.host)) (record {
         paid = subst (λ (n : ℕ). IsPaid start now k.policy.owed n d.comes) (omega (arith, a, z0)) (subst (λ (n : ℕ). IsPaid start now k.policy.owed c.asks n) (omega (arith, b, z1)) w.paid);
         told = subst (λ (n : ℕ). IsSpaced start now k.policy.reports.due 1000000 (n * 1000000)) (omega (arith, r, z2)) w.told;
         bursts = w.bursts + 1;
-        answered = record { quiet = subst (λ (n : ℕ). IsSpaced start now (now + 1000000) 1000000 n) (omega arith) spaced; answer = tt };
+        answered = record { quiet = subst (λ (n : ℕ). IsSpaced start now (now + pause) 1000000 n) (omega arith) spaced; answer = tt };
         few = omega (arith, old, s, many, few);
-        asking = λ slow. subst (λ (n : ℕ). IsAsking start now (answered_at now k.policy.questions) n) (omega (arith, q, z3)) (let g = w.asking slow in record { slow = g.slow; asks = g.asks; within = g.within });
+        asking = λ slow. subst (λ (n : ℕ). IsAsking start now (answered_at now pause k.policy.questions) n) (omega (arith, q, z3)) (let g = w.asking slow in record { slow = g.slow; asks = g.asks; within = g.within });
       });
 }
 
@@ -517,13 +522,13 @@ told_keep k = record {
         paid = w.paid;
         told = w.told;
         bursts = w.bursts;
-        answered = record { quiet = put_off start now k.policy.questions.quiet 1000000 (w.bursts * 1000000) (now + 1000000) since (omega arith) w.answered.quiet; answer = tt };
+        answered = record { quiet = put_off start now k.policy.questions.quiet 1000000 (w.bursts * 1000000) (max k.policy.questions.quiet (now + 1000000)) since (omega arith) w.answered.quiet; answer = tt };
         few = w.few;
         asking = λ slow. let g = w.asking slow in record { slow = g.slow; asks = tt; within = g.within };
       });
 }
 
-is_quiet_no_longer : (holds_some none : Bool) (quiet now : ℕ) → (holds_some && none && nat_le quiet now) ≡ true → quiet ≤ now
+pub is_quiet_no_longer : (holds_some none : Bool) (quiet now : ℕ) → (holds_some && none && nat_le quiet now) ≡ true → quiet ≤ now
 is_quiet_no_longer holds_some none quiet now e = grind (arith, nat_tests)
 
 takes_up_keep : (k : Keeping) → is_to_answer (present k.host) (nat_lt 0 (length k.host.is.held)) k.policy.questions ≡ true → Keeps k [] (with_policy (after_taking_up (present k.host) k.policy) k)

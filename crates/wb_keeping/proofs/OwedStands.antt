@@ -262,7 +262,7 @@ pays_nothing d line k same free = comes d line k k.policy same (λ le lacked. �
 -- ---- a name that is wanted
 
 -- lines with which a policy asks
-abbrev IsAsking : Line → Type 0
+abbrev pub IsAsking : Line → Type 0
 IsAsking (Calls (Ask name)) = Unit {0}
 IsAsking (Calls (Stop name)) = Unit {0}
 IsAsking (Calls (SetDelay source micros)) = Unit {0}
@@ -277,7 +277,7 @@ lacked_asking (Calls call ∷ lines) host asking lacked = absurd asking.0
 lacked_asking (Arrives d ∷ lines) host asking lacked = absurd asking.0
 lacked_asking (Says v ∷ lines) host asking lacked = absurd asking.0
 
-present_asking : (lines : List Line) (host : Opened) → Each IsAsking lines → present (after_lines lines host) ≡ present host
+pub present_asking : (lines : List Line) (host : Opened) → Each IsAsking lines → present (after_lines lines host) ≡ present host
 present_asking [] host asking = refl
 present_asking (Calls (Ask name) ∷ lines) host asking = present_asking lines (after_line (Calls (Ask name)) host) asking.1 ∙ present_asks name host
 present_asking (Calls (Stop name) ∷ lines) host asking = present_asking lines (after_line (Calls (Stop name)) host) asking.1
@@ -435,7 +435,7 @@ owed_steps = record {
     turned = λ t l k. same_owed (record k.policy { turns = t; leaps = l }) k refl;
     beats = λ k due. same_owed (after_beat (present k.host) k.policy) k refl;
     answers = λ k is s. let v = view_of k.host in let pages = take 64 (pages_of k.host.is.held) in
-        steadily k (having_done (doing (after_answer (present k.host) k.policy) (says v pages)) k) (says v pages) refl (subst AreLacked (sym (says_after v pages k.host)) s.lacked) (λ full. subst IsFull (sym (says_after v pages k.host)) full) (ap present (says_after v pages k.host)) (omega arith)
+        steadily k (having_done (doing (after_answer (present k.host) (length (take 64 (pages_of k.host.is.held))) k.policy) (says v pages)) k) (says v pages) refl (subst AreLacked (sym (says_after v pages k.host)) s.lacked) (λ full. subst IsFull (sym (says_after v pages k.host)) full) (ap present (says_after v pages k.host)) (omega arith)
         (let count = ap timer_count (says_after v pages k.host) in omega (arith, count)) s;
     asks_pages = λ k is. same_owed (after_question (present k.host) k.policy) k refl;
     reports = λ page until told k is. same_owed (reports_page page until (slice_after told (report_of k.host.is.held page)) (sees k.host) k.policy).policy k refl;

@@ -10,7 +10,7 @@ use Rattle.wb_member.specs.Judged.{asked_names}
 use Rattle.wb_member.specs.Opened.{Opened, opened_with, present}
 use Rattle.wb_member.specs.declared.calls.Call.TheVariants as calls
 use Rattle.wb_recovery.specs.declared.limits.TheConstants.{MOST_TIMERS}
-use Rattle.wb_policy.specs.declared.limits.TheConstants.{COST, FIRST_WAIT, LEAST_DELAY, MOST_PAGES, PAYS, PLACES, QUIET, SHORTEST_PAUSE}
+use Rattle.wb_policy.specs.declared.limits.TheConstants.{COST, FIRST_WAIT, LEAST_DELAY, MOST_PAGES, PAYS, PLACES, QUIET, SECOND, SHORTEST_PAUSE, STATE_BYTES}
 use Rattle.wb_keeping.specs.Kept.{Line, Arrives, Says, Calls, ticks_at, want}
 use Rattle.wb_keeping.specs.Calls.{KeptLine}
 use Rattle.wb_keeping.specs.Laws.{AreTaken, after_kept, expand}
@@ -144,3 +144,10 @@ pub record IsRarelySaid (lines : List Line) (micros : ℕ) : Type 0 where
 abbrev pub LittleIsSaid : Type 0
 LittleIsSaid = (lines : List KeptLine) (k : Keeping) → FIRST_WAIT ≤ k.policy.questions.wait → AreTaken lines k
     → IsRarelySaid (expand lines k) (present (after_kept lines k).host - present k.host)
+
+-- Whatever comes in, page states are paid for by the rate that reports share, each counted with its most bytes: but for 64 at once, and for a microsecond each. The
+-- rate pays for one in a second at least.
+abbrev pub StatesArePaid : Type 0
+StatesArePaid = (lines : List KeptLine) (k : Keeping) → AreTaken lines k → STATE_BYTES ≤ k.policy.reports.rate
+    → let states = length (filter is_state (expand lines k)) in
+    states * (STATE_BYTES * SECOND) ≤ MOST_PAGES * (STATE_BYTES * SECOND) + (present (after_kept lines k).host - present k.host + states) * k.policy.reports.rate

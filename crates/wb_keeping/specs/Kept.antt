@@ -25,7 +25,7 @@ use Rattle.wb_policy.specs.Questions.{is_due, is_to_answer}
 use Rattle.wb_policy.specs.Reports.{members_in, page_after, rest_after, slice_after, report_bytes}
 use Rattle.wb_policy.specs.Turns.{name_in, nowhere}
 use Rattle.wb_policy.specs.Credit.{is_covered}
-use Rattle.wb_policy.specs.Wanting.{giving_way, is_wanted, passes_on}
+use Rattle.wb_policy.specs.Wanting.{giving_way, is_wanted, passes_on, young_count}
 use Rattle.wb_policy.specs.declared.wanting.AskedName.{AskedName}
 
 -- what a policy does: the lines that its host performs, and the policy afterwards
@@ -136,9 +136,9 @@ unfoldable pub turns_on : ℕ → Transition
 turns_on zero see p = still see p
 turns_on (suc more) see p = if is_begun (turn see p) then turn see p else and_then turn (turns_on more) see p
 
--- these pass over what is asked for, if a place of the credit is left and few timers stand
+-- these pass over what is asked for, if a place of the credit is left and few timers that are not old stand
 abbrev pub turns_past : Transition
-turns_past see p = if passes_on (length (see []).asked) p.owed (see []).now then turns_on (MOST_TIMERS + 1) see p else still see p
+turns_past see p = if passes_on (young_count (see []).asked) p.owed (see []).now then turns_on (MOST_TIMERS + 1) see p else still see p
 
 -- leaps and turns, if a name that was asked for came
 abbrev pub turn_if : Bool → Transition
@@ -160,8 +160,9 @@ state_of v page = PageState v.me page (slice_after None (report_of v.held page))
 abbrev pub answers : Transition
 answers see p =
     let v = see [] in
+    let pages = take MOST_PAGES (pages_of v.held) in
     if is_due v.now p.questions.answer
-    then record { policy = after_answer v.now p; lines = map (λ page. Says (state_of v page)) (take MOST_PAGES (pages_of v.held)) }
+    then record { policy = after_answer v.now (length pages) p; lines = map (λ page. Says (state_of v page)) pages }
     else still see p
 
 abbrev pub asks_pages : Transition

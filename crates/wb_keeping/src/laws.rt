@@ -2,7 +2,7 @@
 //! nothing: each stands here for its clause.
 
 ghost use Rattle.std.specs.Prelude.{◌≡◌};
-ghost use Rattle.wb_keeping.specs.Bounds.{FewAreNotRefused, FewNamesAreAsked, FewRequestsAtOnce, FewTimersStand, LittleIsSaid, NamesAreSeldomRequested, OwedStands};
+ghost use Rattle.wb_keeping.specs.Bounds.{FewAreNotRefused, FewNamesAreAsked, FewRequestsAtOnce, FewTimersStand, LittleIsSaid, NamesAreSeldomRequested, OwedStands, StatesArePaid};
 ghost use Rattle.wb_keeping.specs.Fairness.{OnlyHeldIsAnswered, ReportsTell, TurnsAreTaken, WantedIsAsked};
 ghost use Rattle.wb_keeping.specs.Laws.{ANumberIsLeft, CallsAreOfPolicies, DrawingIsNotLocked, KeptHostsAreHosts, NothingIsDue, TimeComesFirst, WantedIsPaid};
 ghost use Rattle.wb_keeping.specs.declared.limits.TheConstants.{AHEAD, MINUTES, MOST_REQUESTS};
@@ -67,9 +67,11 @@ pub fn no_more_is_owed_than_stands()
 {}
 
 /// Whatever comes in, its reports are a second apart or more; page states come at most 64 at once,
-/// and then a second apart or more; questions for pages are half a second apart or more.
+/// and then a second apart or more; questions for pages are half a second apart or more. Page
+/// states are paid for by the rate of reports, 534 bytes each.
 pub fn little_is_said()
-    ensures { LittleIsSaid }
+    ensures said { LittleIsSaid }
+    ensures paid { StatesArePaid }
 {}
 
 /// A turn is that of the hole that comes next among those of what is held, and a report tells what

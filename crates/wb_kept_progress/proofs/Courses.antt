@@ -99,7 +99,7 @@ answers_plain k = by (is_due v.now k.policy.questions.answer) (answers_each IsSm
   v = view_of k.host
 
   some : Doing
-  some = doing (after_answer v.now k.policy) (map (λ page. Says (state_of v page)) (take 64 (pages_of v.held)))
+  some = doing (after_answer v.now (length (take 64 (pages_of v.held))) k.policy) (map (λ page. Says (state_of v page)) (take 64 (pages_of v.held)))
 
   none : Doing
   none = still (sees k.host) k.policy

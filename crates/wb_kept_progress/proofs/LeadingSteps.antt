@@ -23,7 +23,7 @@ use Rattle.wb_policy.specs.Policy.{Policy, after_answer, after_question, after_b
 use Rattle.wb_policy.specs.Questions.{is_due}
 use Rattle.wb_policy.specs.Reports.{rest_after}
 use Rattle.wb_policy.specs.Turns.{name_in, nowhere, number_in}
-use Rattle.wb_policy.specs.Wanting.{goes_on, is_paid, passes_on}
+use Rattle.wb_policy.specs.Wanting.{goes_on, is_paid, passes_on, young_count}
 use Rattle.wb_policy.specs.declared.leaps.Leaps.{Leaps}
 use Rattle.wb_policy.specs.declared.limits.TheConstants.{COST}
 use Rattle.wb_policy.specs.declared.turns.Turns.{Turns}
@@ -431,7 +431,7 @@ turns_lead (suc more) k answers_held asks = by (turns_lead more) (is_begun (turn
       (subst AsksForMissing (sym (then_after turn (turns_on more) k)) (rest (after_doing turn k) (answers_on turn k answers_held) (turn_leads k answers_held asks)))
 
 pub past_leads : (k : Keeping) → AnswersWhatIsHeld k.host → AsksForMissing k → AsksForMissing (after_doing turns_past k)
-past_leads k answers_held asks = by (passes_on (length (view_of k.host).asked) k.policy.owed (present k.host)) where
+past_leads k answers_held asks = by (passes_on (young_count (view_of k.host).asked) k.policy.owed (present k.host)) where
   by : (b : Bool) → AsksForMissing (having_done (cond b (turns_on 65 (sees k.host) k.policy) (still (sees k.host) k.policy)) k)
   by true = turns_lead 65 k answers_held asks
   by false = asks
@@ -442,7 +442,7 @@ past_leads k answers_held asks = by (passes_on (length (view_of k.host).asked) k
 answers_stay : (k : Keeping) → (after_doing answers k).host ≡ k.host
 answers_stay k = by (is_due (present k.host) k.policy.questions.answer) where
   by : (b : Bool)
-      → (having_done (cond b (doing (after_answer (present k.host) k.policy) (map (λ (page : PageId). Says (state_of (view_of k.host) page)) (take 64 (pages_of k.host.is.held)))) (still (sees k.host) k.policy)) k).host ≡ k.host
+      → (having_done (cond b (doing (after_answer (present k.host) (length (take 64 (pages_of k.host.is.held))) k.policy) (map (λ (page : PageId). Says (state_of (view_of k.host) page)) (take 64 (pages_of k.host.is.held)))) (still (sees k.host) k.policy)) k).host ≡ k.host
   by true = says_after (view_of k.host) (take 64 (pages_of k.host.is.held)) k.host
   by false = refl
 

@@ -22,7 +22,7 @@ use Rattle.wb_recovery.specs.declared.limits.TheConstants.{MOST_TIMERS}
 use Rattle.wb_policy.specs.Questions.{is_due, is_to_answer}
 use Rattle.wb_policy.specs.Reports.{next_report, rest_after}
 use Rattle.wb_policy.specs.Turns.{name_in, nowhere}
-use Rattle.wb_policy.specs.Wanting.{passes_on}
+use Rattle.wb_policy.specs.Wanting.{passes_on, young_count}
 use Rattle.wb_policy.specs.Words.{word_of}
 use Rattle.wb_keeping.proofs.Wanted.{is_wanted_here, lines_wanted, near_here, with_room_done}
 use Rattle.wb_keeping.proofs.WantedNames.{lines_answer_held}
@@ -52,7 +52,7 @@ either p false x y l m = m
 pub answers_leave : (see : List Line → View) (p : Policy) → Leaves p (answers see p).policy
 answers_leave see p =
     let v = see [] in
-    either p (is_due v.now p.questions.answer) (record { policy = after_answer v.now p; lines = map (λ (page : PageId). Says (state_of v page)) (take 64 (pages_of v.held)) }) (still see p)
+    either p (is_due v.now p.questions.answer) (record { policy = after_answer v.now (length (take 64 (pages_of v.held))) p; lines = map (λ (page : PageId). Says (state_of v page)) (take 64 (pages_of v.held)) }) (still see p)
     (record { turns = refl; owed = refl; due = refl; beat = refl; told = refl }) (record { turns = refl; owed = refl; due = refl; beat = refl; told = refl })
 
 pub asks_leave : (see : List Line → View) (p : Policy) → Leaves p (asks_pages see p).policy
@@ -182,7 +182,7 @@ turns_on_tell (suc more) see p =
 
 turns_past_tell : TellsNothing turns_past
 turns_past_tell see p =
-    choose p (passes_on (length (see []).asked) p.owed (see []).now) (turns_on (MOST_TIMERS + 1) see p) (still see p) (turns_on_tell (MOST_TIMERS + 1) see p) (same p)
+    choose p (passes_on (young_count (see []).asked) p.owed (see []).now) (turns_on (MOST_TIMERS + 1) see p) (still see p) (turns_on_tell (MOST_TIMERS + 1) see p) (same p)
 
 -- a turn by the clock puts the next one off, and tells nothing
 pub turns_tell : (see : List Line → View) (p : Policy) → ((turns_due see p).policy.reports.due ≡ p.reports.due) × (told_of (turns_due see p).policy ≡ told_of p)

@@ -104,7 +104,7 @@ steps_stay_near = record {
     wants = λ name anew k. record { near = wants_near name anew k };
     turned = λ t l k. record { near = λ n. record { owed = n.owed; due = n.due; beat = n.beat } };
     beats = λ k is. record { near = λ n. record { owed = n.owed; due = n.due; beat = turn_soon (present k.host) k.policy.pace.gap } };
-    answers = λ k is. record { near = λ n. same_near k (having_done (doing (after_answer (present k.host) k.policy) (map (λ page. Says (state_of (view_of k.host) page)) (take 64 (pages_of k.host.is.held)))) k) refl refl refl (ap present (says_after (view_of k.host) (take 64 (pages_of k.host.is.held)) k.host)) n };
+    answers = λ k is. record { near = λ n. same_near k (having_done (doing (after_answer (present k.host) (length (take 64 (pages_of k.host.is.held))) k.policy) (map (λ page. Says (state_of (view_of k.host) page)) (take 64 (pages_of k.host.is.held)))) k) refl refl refl (ap present (says_after (view_of k.host) (take 64 (pages_of k.host.is.held)) k.host)) n };
     asks_pages = λ k is. record { near = λ n. record { owed = n.owed; due = n.due; beat = n.beat } };
     reports = λ page until told k is. record { near = λ n. record { owed = n.owed; due = next_soon (present k.host) _ (word_of k.policy.words); beat = n.beat } };
   };

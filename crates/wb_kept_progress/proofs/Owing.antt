@@ -1,5 +1,5 @@
 -- A host that owed no more than its later moment, and then has no credit, asked for 64 names meanwhile: each costs a quarter of a second.
-use Rattle.std.proofs.Common.{◌≡◌, ℕ, ◌+◌, ◌-◌, ◌*◌, ◌<◌, ◌≤◌, Bool, true, false, cond, List, [], ◌∷◌, ◌++◌, ◌∙◌, ap, append-nil, arith, eqb-true, map, max, refl, subst, sym}
+use Rattle.std.proofs.Common.{◌≡◌, ℕ, ◌+◌, ◌-◌, ◌*◌, ◌<◌, ◌≤◌, Bool, true, false, cond, List, [], ◌∷◌, ◌++◌, ◌∙◌, ap, append-nil, arith, eqb-true, length, map, max, refl, subst, sym}
 use Rattle.std.specs.Prelude.{◌&&◌, Contains, nat_eq, nat_lt, take}
 use Rattle.std.proofs.lemmas.Bool.{leb-false, lt-ltb}
 use Rattle.std.proofs.Math.Nat.{le_refl, sub-le}
@@ -92,7 +92,7 @@ steps_owe = record {
     wants = wants_owe;
     turned = λ t l k. no_more k [] _ (le_refl (present k.host)) (le_refl k.policy.owed);
     beats = λ k due. no_more k [] _ (le_refl (present k.host)) (le_refl k.policy.owed);
-    answers = λ k is. no_more k _ (having_done (doing (after_answer (present k.host) k.policy) (map (λ page. Says (state_of (view_of k.host) page)) (take 64 (pages_of k.host.is.held)))) k)
+    answers = λ k is. no_more k _ (having_done (doing (after_answer (present k.host) (length (take 64 (pages_of k.host.is.held))) k.policy) (map (λ page. Says (state_of (view_of k.host) page)) (take 64 (pages_of k.host.is.held)))) k)
         (no_later _ (present k.host) (ap present (says_after (view_of k.host) (take 64 (pages_of k.host.is.held)) k.host))) (le_refl k.policy.owed);
     asks_pages = λ k is. no_more k _ _ (le_refl (present k.host)) (le_refl k.policy.owed);
     reports = λ page until told k is. no_more k _ _ (le_refl (present k.host)) (le_refl k.policy.owed);

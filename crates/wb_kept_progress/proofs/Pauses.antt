@@ -209,7 +209,7 @@ either_rate p false x y one other = other
 answers_rate : (see : List Line → View) (p : Policy) → (answers see p).policy.reports.rate ≡ p.reports.rate
 answers_rate see p =
     let v = see [] in
-    either_rate p (is_due v.now p.questions.answer) (record { policy = after_answer v.now p; lines = map (λ (page : PageId). Says (state_of v page)) (take 64 (pages_of v.held)) }) (still see p) refl refl
+    either_rate p (is_due v.now p.questions.answer) (record { policy = after_answer v.now (length (take 64 (pages_of v.held))) p; lines = map (λ (page : PageId). Says (state_of v page)) (take 64 (pages_of v.held)) }) (still see p) refl refl
 
 asks_rate : (see : List Line → View) (p : Policy) → (asks_pages see p).policy.reports.rate ≡ p.reports.rate
 asks_rate see p =

@@ -6,7 +6,7 @@ use Rattle.wb_policy.specs.Credit.{repaid, spent}
 use Rattle.wb_policy.specs.Delays.{bounded, usual_with}
 use Rattle.wb_policy.specs.Leaps.{after_leap, next_leaps}
 use Rattle.wb_policy.specs.Pace.{begun_pace, hurried, next_pace}
-use Rattle.wb_policy.specs.Questions.{answered_at, asked_at, heard_at, opened_at, to_answer}
+use Rattle.wb_policy.specs.Questions.{answer_pause, answered_at, asked_at, heard_at, opened_at, to_answer}
 use Rattle.wb_policy.specs.Reports.{mean_time, next_report}
 use Rattle.wb_policy.specs.Turns.{after_hole, next_round, nowhere}
 use Rattle.wb_policy.specs.Words.{Lcg, after_word, drawn, started}
@@ -94,15 +94,15 @@ after_beat now p = record p { pace = next_pace now p.pace }
 abbrev pub after_echo : ℕ → Policy → Policy
 after_echo micros p = record p { usual = usual_with p.usual (bounded micros) }
 
--- it asked for pages; it took up a question, and answered it; somebody answered
+-- it asked for pages; it took up a question, and answered it by some page states; somebody answered
 abbrev pub after_question : ℕ → Policy → Policy
 after_question now p = record (after_draw p) { questions = asked_at now (draws p.questions.wait p) p.questions }
 
 abbrev pub after_taking_up : ℕ → Policy → Policy
 after_taking_up now p = record (after_draw p) { questions = to_answer now (draws ANSWER p) p.questions }
 
-abbrev pub after_answer : ℕ → Policy → Policy
-after_answer now p = record p { questions = answered_at now p.questions }
+abbrev pub after_answer : ℕ → ℕ → Policy → Policy
+after_answer now states p = record p { questions = answered_at now (answer_pause p.reports.rate states) p.questions }
 
 abbrev pub after_state : ℕ → Policy → Policy
 after_state now p = record p { questions = heard_at now p.questions }

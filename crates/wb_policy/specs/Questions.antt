@@ -1,6 +1,6 @@
 -- Questions for pages: a newcomer asks which there are, and asks less often from time to time; about one member answers.
-use Rattle.std.specs.Prelude.{ℕ, ◌+◌, ◌*◌, ◌/◌, Bool, false, ◌&&◌, Option, Some, None, is_none, min, nat_le}
-use Rattle.wb_policy.specs.declared.limits.TheConstants.{FIRST_WAIT, MOST_WAIT, QUIET}
+use Rattle.std.specs.Prelude.{ℕ, ◌+◌, ◌*◌, ◌/◌, Bool, false, ◌&&◌, Option, Some, None, is_none, max, min, nat_le}
+use Rattle.wb_policy.specs.declared.limits.TheConstants.{FIRST_WAIT, LONGEST_MEAN, MOST_PAGES, MOST_WAIT, QUIET, SECOND, STATE_BYTES}
 use Rattle.wb_policy.specs.declared.questions.Questions.{Questions}
 
 -- a moment is due
@@ -24,10 +24,14 @@ is_to_answer now holds q = holds && is_none q.answer && nat_le q.quiet now
 abbrev pub to_answer : ℕ → ℕ → Questions → Questions
 to_answer now drawn q = record q { answer = Some (now + drawn) }
 
--- it answered, or its moment is over
-abbrev pub answered_at : ℕ → Questions → Questions
-answered_at now q = record q { answer = None; quiet = now + QUIET }
+-- Page states take `rate` bytes a second, each counted with its most bytes: after some it takes up no question for this time, from 1 to 64 seconds.
+abbrev pub answer_pause : ℕ → ℕ → ℕ
+answer_pause rate states = min (max (min states MOST_PAGES * STATE_BYTES * SECOND / rate) QUIET) LONGEST_MEAN
+
+-- it answered
+abbrev pub answered_at : ℕ → ℕ → Questions → Questions
+answered_at now pause q = record q { answer = None; quiet = now + pause }
 
 -- somebody answered: it asks and answers no more
 abbrev pub heard_at : ℕ → Questions → Questions
-heard_at now q = record q { ask = None; answer = None; quiet = now + QUIET }
+heard_at now q = record q { ask = None; answer = None; quiet = max q.quiet (now + QUIET) }

@@ -1,5 +1,5 @@
 -- Which names are asked for.
-use Rattle.std.specs.Prelude.{ℕ, Bool, true, false, not, ◌&&◌, ◌||◌, List, [], ◌∷◌, Option, Some, None, length, nat_le, nat_lt, if◌then◌else◌}
+use Rattle.std.specs.Prelude.{ℕ, Bool, true, false, not, ◌&&◌, ◌||◌, List, [], ◌∷◌, Option, Some, None, filter, length, nat_le, nat_lt, if◌then◌else◌}
 use Rattle.std.specs.List.{fold}
 use Rattle.wb_policy.specs.Credit.{has_credit, is_covered, leaves_some}
 use Rattle.wb_recovery.specs.declared.limits.TheConstants.{MOST_TIMERS}
@@ -25,9 +25,13 @@ is_paid false owed now = leaves_some owed now
 abbrev pub is_wanted : Bool → Bool → Bool → Bool → Option ℕ → ℕ → ℕ → ℕ → Bool
 is_wanted held full anew known level count owed now = not held && (not full && (not (goes_on anew (is_covered count owed now) level) && is_paid (anew || known) owed now))
 
--- Turns pass over what is asked for while a place of the credit is left and fewer than 56 timers stand. So they give up old timers alone.
+-- how many of some timers are not old
+abbrev pub young_count : List AskedName → ℕ
+young_count asked = length (filter (λ a. not (is_old a.level)) asked)
+
+-- Turns pass over what is asked for while a place of the credit is left and fewer than 56 timers that are not old stand. So they give up old timers alone.
 abbrev pub passes_on : ℕ → ℕ → ℕ → Bool
-passes_on count owed now = nat_lt count TIMERS_BEFORE_TURNS && has_credit owed now
+passes_on young owed now = nat_lt young TIMERS_BEFORE_TURNS && has_credit owed now
 
 -- of two names that are asked for, the one whose timer was backed off more, and the first if both were equally often
 abbrev pub older : AskedName → AskedName → AskedName

@@ -4,7 +4,7 @@
 ghost use Rattle.std.specs.Prelude.{◌≡◌, ◌^◌};
 ghost use Rattle.wb_policy.specs.Fairness.{EachHoleHasItsTurn, EachMarkIsTold, EachNumberHasItsTurn, EachNumberHasItsTurnSoon, TellingsRise};
 ghost use Rattle.wb_policy.specs.Laws.{FewAreAsked, IdleTurnsAreRare, NearIsAmong, NumbersAreNear, ReportsAreSmall, SlicesAreShort, SuccessHurries, TurnsArePaced};
-ghost use Rattle.wb_policy.specs.declared.limits.TheConstants.{ANSWER, COST, ECHO_BYTES, FIRST_DELAY, FIRST_QUESTION, FIRST_REPORT, FIRST_WAIT, HEAD_BYTES, HEARD, LEAST_DELAY, LISTEN_LIMIT, LONGEST_GAP, LONGEST_MEAN, LONGEST_PAUSE, MARK_BYTES, MAX_RATE, MEMBERS, MOST_BYTES, MOST_DELAY, MOST_ECHOES, MOST_MARKS, MOST_PAGES, MOST_REPORT_BYTES, MOST_WAIT, OLD_LEVEL, PAYS, PLACES, PLACES_OF_LAST, QUIET, REACH, ROUND_LIMIT, SECOND, SHORTEST_GAP, SHORTEST_MEAN, SHORTEST_PAUSE, STEADINESS, STREAM, STRIDE, TIMERS_BEFORE_TURNS, WINDOW};
+ghost use Rattle.wb_policy.specs.declared.limits.TheConstants.{ANSWER, COST, ECHO_BYTES, FIRST_DELAY, FIRST_QUESTION, FIRST_REPORT, FIRST_WAIT, HEAD_BYTES, HEARD, LEAST_DELAY, LISTEN_LIMIT, LONGEST_GAP, LONGEST_MEAN, LONGEST_PAUSE, MARK_BYTES, MAX_RATE, MEMBERS, MOST_BYTES, MOST_DELAY, MOST_ECHOES, MOST_MARKS, MOST_PAGES, MOST_REPORT_BYTES, MOST_WAIT, OLD_LEVEL, PAYS, PLACES, PLACES_OF_LAST, QUIET, REACH, ROUND_LIMIT, SECOND, SHORTEST_GAP, SHORTEST_MEAN, SHORTEST_PAUSE, STATE_BYTES, STEADINESS, STREAM, STRIDE, TIMERS_BEFORE_TURNS, WINDOW};
 
 /// From one moment to another at most 64 names are asked for, one more for each quarter of a
 /// second, and two more for each that was asked for and came.
@@ -62,7 +62,7 @@ pub fn limits()
     ensures reports { (FIRST_REPORT ≡ 1000000) × (MOST_MARKS ≡ 64) × (MOST_ECHOES ≡ 32) }
     ensures bytes { (MOST_BYTES ≡ 2000000) × (MOST_REPORT_BYTES ≡ 1184) × (MAX_RATE ≡ 1000000) }
     ensures questions { (FIRST_QUESTION ≡ 200000) × (FIRST_WAIT ≡ 1000000) }
-    ensures answers { (MOST_WAIT ≡ 64000000) × (MOST_PAGES ≡ 64) }
+    ensures answers { (MOST_WAIT ≡ 64000000) × (MOST_PAGES ≡ 64) × (STATE_BYTES ≡ 534) }
     ensures listens { LISTEN_LIMIT ≡ 2 ^ 32 }
 {}
 

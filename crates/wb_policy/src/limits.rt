@@ -127,7 +127,10 @@ pub const MOST_WAIT: u64 = 64_000_000;
 /// The longest time before an answer.
 pub const ANSWER: u32 = 500_000;
 
-/// How long a question is not taken up after an answer.
+/// The most bytes of a page state.
+pub const STATE_BYTES: u64 = 534;
+
+/// How long a question is not taken up after an answer, at least.
 pub const QUIET: u64 = 1_000_000;
 
 // ---- the beginning

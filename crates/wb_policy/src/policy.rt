@@ -18,7 +18,7 @@ use crate::delays::Delays;
 use crate::leaps::Leaps;
 use crate::limits::{ANSWER, FIRST_QUESTION, FIRST_REPORT, STREAM, TIMERS_BEFORE_TURNS};
 use crate::pace::Pace;
-use crate::questions::Questions;
+use crate::questions::{Questions, answer_pause};
 use crate::reports::{Reports, is_telling};
 use crate::turns::Turns;
 use crate::wanting::Candidate;
@@ -159,11 +159,12 @@ impl Policy {
         self.credit.repay();
     }
 
-    /// Whether turns pass over what is asked for, while `timers` request timers stand.
-    pub fn passes_on(&self, timers: usize, now: u64) -> bool
-        ensures { result ≡ passes_on timers self.now.owed now }
+    /// Whether turns pass over what is asked for, while `young` request timers that are not old
+    /// stand.
+    pub fn passes_on(&self, young: usize, now: u64) -> bool
+        ensures { result ≡ passes_on young self.now.owed now }
     {
-        timers < TIMERS_BEFORE_TURNS && self.credit.is_left(true, now)
+        young < TIMERS_BEFORE_TURNS && self.credit.is_left(true, now)
     }
 
     /// The next hole in turn begins after this number of this source on this page.
@@ -266,16 +267,19 @@ impl Policy {
     }
 
     /// Whether it is to answer with its pages now.
-    pub fn answers(&mut self, now: u64) -> bool
-        requires { IsMoment now }
-        ensures due { result ≡ is_due now self.old.questions.answer }
-        ensures after { self.new ≡ (if result then after_answer now self.old else self.old) }
+    pub fn is_to_answer(&self, now: u64) -> bool
+        ensures { result ≡ is_due now self.now.questions.answer }
     {
-        if !self.questions.is_to_answer(now) {
-            return false;
-        }
-        self.questions.answered(now);
-        true
+        self.questions.is_to_answer(now)
+    }
+
+    /// It answered by some page states, which are paid for by the rate of reports.
+    pub fn answered(&mut self, now: u64, states: usize)
+        requires { IsMoment now }
+        ensures { self.new ≡ after_answer now states self.old }
+    {
+        let pause = answer_pause(self.reports.rate, states);
+        self.questions.answered(now, pause);
     }
 
     /// Another member sent a page state.

@@ -2,10 +2,10 @@
 
 ghost use Rattle.std.specs.Prelude.{◌≡◌, ◌≤◌, ◌<◌, ◌^◌};
 ghost use Rattle.wb_names.specs.Moments.{IsMoment};
-ghost use Rattle.wb_policy.specs.declared.limits.TheConstants.{ANSWER, FIRST_QUESTION, MOST_WAIT};
-ghost use Rattle.wb_policy.specs.Questions.{answered_at, asked_at, heard_at, is_due, is_to_answer, opened_at, to_answer};
+ghost use Rattle.wb_policy.specs.declared.limits.TheConstants.{ANSWER, FIRST_QUESTION, LONGEST_MEAN, MOST_WAIT, QUIET};
+ghost use Rattle.wb_policy.specs.Questions.{answer_pause, answered_at, asked_at, heard_at, is_due, is_to_answer, opened_at, to_answer};
 
-use crate::limits::{FIRST_WAIT, MOST_WAIT, QUIET};
+use crate::limits::{FIRST_WAIT, LONGEST_MEAN, MOST_PAGES, MOST_WAIT, QUIET, SECOND, STATE_BYTES};
 
 /// When a member asks which pages there are, and when it answers others, in microseconds.
 #[derive(Clone, Copy, Debug, PartialEq, Eq)]
@@ -76,13 +76,14 @@ impl Questions {
         is_due(now, self.answer)
     }
 
-    /// It answered.
-    pub fn answered(&mut self, now: u64)
-        requires { IsMoment now }
-        ensures { self.new ≡ answered_at now self.old }
+    /// It answered, and takes up no question for this time.
+    pub fn answered(&mut self, now: u64, pause: u64)
+        requires moment { IsMoment now }
+        requires pause { pause ≤ LONGEST_MEAN }
+        ensures { self.new ≡ answered_at now pause self.old }
     {
         self.answer = None;
-        self.quiet = now + QUIET;
+        self.quiet = now + pause;
     }
 
     /// Another member sent a page state.
@@ -91,8 +92,20 @@ impl Questions {
         ensures { self.new ≡ heard_at now self.old }
     {
         self.ask = None;
-        self.answered(now);
+        self.answer = None;
+        self.quiet = self.quiet.max(now + QUIET);
     }
+}
+
+/// How long page states are paid for: they take `rate` bytes a second, each counted with its most
+/// bytes. From 1 to 64 seconds.
+pub fn answer_pause(rate: u64, states: usize) -> u64
+    requires { 1 ≤ rate }
+    ensures pause { result ≡ answer_pause rate states }
+    ensures longest { result ≤ LONGEST_MEAN }
+{
+    let bytes = states.min(MOST_PAGES) as u64 * STATE_BYTES;
+    (bytes * SECOND / rate).max(QUIET).min(LONGEST_MEAN)
 }
 
 /// Whether a moment is due.

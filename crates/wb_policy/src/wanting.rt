@@ -1,7 +1,7 @@
 //! Which names are asked for.
 
-ghost use Rattle.std.specs.Prelude.{◌≡◌};
-ghost use Rattle.wb_policy.specs.Wanting.{gives_way, giving_way, goes_on, is_old, is_wanted, older, oldest};
+ghost use Rattle.std.specs.Prelude.{◌≡◌, ◌≤◌, filter, length};
+ghost use Rattle.wb_policy.specs.Wanting.{gives_way, giving_way, goes_on, is_old, is_wanted, older, oldest, young_count};
 
 use crate::credit::Credit;
 use crate::limits::OLD_LEVEL;
@@ -62,6 +62,13 @@ pub struct AskedName {
     pub name: Name,
     /// How often its timer was backed off.
     pub level: u32,
+}
+
+/// How many of some timers are not old.
+pub fn young_count(asked: &[AskedName]) -> usize
+    ensures { result ≡ young_count asked.now }
+{
+    asked.iter().filter(|other| !is_old(other.level)).count()
 }
 
 /// The one that is given up when another is newly asked for: the oldest, if 64 timers stand, or it

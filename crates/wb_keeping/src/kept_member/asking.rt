@@ -15,7 +15,7 @@ use std::alloc::{AllocError, Global};
 use wb_gaps::Hole;
 use wb_names::Name;
 use wb_policy::limits::REACH;
-use wb_policy::{AskedName, Candidate, Turns, giving_way, near_names};
+use wb_policy::{AskedName, Candidate, Turns, giving_way, near_names, young_count};
 use wb_recovery::{MOST_TIMERS, UNKNOWN_DELAY};
 
 impl KeptMember {
@@ -220,14 +220,15 @@ impl KeptMember {
         Ok(())
     }
 
-    /// Turns pass over what is asked for, if a place of the credit is left and few timers stand.
+    /// Turns pass over what is asked for, if a place of the credit is left and few timers that are
+    /// not old stand.
     fn turns_past(&mut self, alloc: Global) -> Result<(), AllocError>
         ensures does { OnOk result (DoesQuietly turns_past self.old self.new) }
         ensures left { OnErr result (LeavesSome turns_past self.old self.new) }
     {
         let now = self.member.moment();
         let asked = self.asked(alloc)?;
-        if !self.policy.passes_on(asked.len(), now) {
+        if !self.policy.passes_on(young_count(&asked), now) {
             return Ok(());
         }
         self.turns_on(alloc, MOST_TIMERS + 1)?;

@@ -37,11 +37,13 @@ impl KeptMember {
         ensures does { OnOk result (Does answers self.old self.new sent.old.items sent.new.items) }
         ensures left { OnErr result (LeavesSome answers self.old self.new) }
     {
-        if !self.policy.answers(self.member.moment()) {
+        let now = self.member.moment();
+        if !self.policy.is_to_answer(now) {
             return Ok(());
         }
         let first = self.member.pages_after(alloc, None, MOST_PAGES)?;
         self.tells_pages(alloc, sent, &first)?;
+        self.policy.answered(now, first.len());
         Ok(())
     }
 

@@ -1,4 +1,4 @@
-use Rattle.std.proofs.Common.{◌≡◌, ℕ, Bool, true, cond, List, ◌++◌, ◌∙◌, ap, map, subst, sym}
+use Rattle.std.proofs.Common.{◌≡◌, ℕ, Bool, true, cond, List, ◌++◌, ◌∙◌, ap, arith, length, map, subst, sym}
 use Rattle.std.specs.Prelude.{take}
 use Rattle.wb_names.specs.declared.name.PageId.{PageId}
 use Rattle.wb_codec.specs.declared.datagram.Datagram.{Datagram}
@@ -19,18 +19,23 @@ pub returns-clause-does : goal.returns-clause-does
 returns-clause-does c = does_seen answers (λ k at.
     let v = view_of k.host in
     let inside = at_inside k c.self.view_is at in
-    let now : c.moment.result ≡ v.now = c.moment.ensures.moment k.host inside.member in
-    let due : is_due v.now k.policy.questions.answer ≡ true = ap (λ (p : Policy). is_due v.now p.questions.answer) (sym inside.policy) ∙ ap (λ (m : ℕ). is_due m c.self.inside.policy.questions.answer) (sym now) ∙ sym c.if-not-answers.ensures.due in
-    let policy : c.answers.new.self ≡ after_answer v.now k.policy = c.if-not-answers.ensures.after ∙ ap (λ (m : ℕ). after_answer m c.self.inside.policy) now ∙ ap (after_answer v.now) inside.policy in
-    let d : Doing = record { policy = after_answer v.now k.policy; lines = says v (take 64 (pages_of v.held)) } in
-    let there : Keeping = record { host = k.host; policy = after_answer v.now k.policy } in
-    let answered : KeptValue = record { member = c.pages_after.new.self; policy = c.answers.new.self } in
-    let kept_at : IsKeptAt answered there = record { member = subst (λ (m : MemberValue). IsOpenAt m k.host) (sym c.pages_after.ensures.same) inside.member; policy = policy } in
-    let first : c.deref.result.now ≡ take 64 (pages_of v.held) = c.deref.ensures.value ∙ c.in_ok-first.ensures.pages k.host inside.member ∙ first_told v.held 64 in (
+    let now : c.moment-now.result ≡ v.now = c.moment-now.ensures.moment k.host inside.member in
+    let due : is_due v.now k.policy.questions.answer ≡ true = ap (λ (p : Policy). is_due v.now p.questions.answer) (sym inside.policy) ∙ ap (λ (m : ℕ). is_due m c.self.inside.policy.questions.answer) (sym now) ∙ sym c.if-not-is_to_answer.ensures in
+    let pages = take 64 (pages_of v.held) in
+    let answered : Policy = after_answer v.now (length pages) k.policy in
+    let d : Doing = record { policy = answered; lines = says v pages } in
+    let before : KeptValue = record { member = c.pages_after.new.self; policy = c.self.inside.policy } in
+    let at_before : IsKeptAt before k = record { member = subst (λ (m : MemberValue). IsOpenAt m k.host) (sym c.pages_after.ensures.same) inside.member; policy = inside.policy } in
+    let told = at_inside k c.self-2.view_is (subst (λ (w : KeptValue). IsKeptAt w k) (sym c.tells_pages.ensures.same) at_before) in
+    let first : c.in_ok-first.first.items ≡ pages = c.in_ok-first.ensures.pages k.host inside.member ∙ first_told v.held 64 in
+    let counted : c.len.result ≡ length c.in_ok-first.first.items = omega (arith, c.len.ensures, c.in_ok-first.first.ok) in
+    let policy : c.answered.new.self ≡ answered =
+    c.answered.ensures ∙ ap (λ (m : ℕ). after_answer m c.len.result c.self-2.inside.policy) now ∙ ap (λ (n : ℕ). after_answer v.now n c.self-2.inside.policy) (counted ∙ ap length first) ∙ ap (after_answer v.now (length pages)) told.policy in
+    let done : KeptValue = record { member = c.self-2.inside.member; policy = c.answered.new.self } in (
       d,
       ap (λ (b : Bool). cond b d (still (sees k.host) k.policy)) due,
-      c.in_ok-tells_pages.ensures.sent there kept_at ∙ ap (λ (ps : List PageId). c.args.sent.now.items ++ map (state_of v) ps) first ∙ ap (λ (ds : List Datagram). c.args.sent.now.items ++ ds) (sym (says_sent v (take 64 (pages_of v.held)) k.host)),
-      subst (λ (h : Opened). let k : Keeping = record { host = h; policy = after_answer v.now k.policy } in IsKeptAt c.tells_pages.new.self k) (sym (says_after v (take 64 (pages_of v.held)) k.host)) (subst (λ (w : KeptValue). IsKeptAt w there) (sym c.tells_pages.ensures.same) kept_at),
+      c.in_ok-tells_pages.ensures.sent k at_before ∙ ap (λ (ps : List PageId). c.args.sent.now.items ++ map (state_of v) ps) (c.deref.ensures.value ∙ first) ∙ ap (λ (ds : List Datagram). c.args.sent.now.items ++ ds) (sym (says_sent v pages k.host)),
+      subst (λ (h : Opened). let k : Keeping = record { host = h; policy = answered } in IsKeptAt done k) (sym (says_after v pages k.host)) (record { member = told.member; policy = policy }),
     ))
 
 pub returns-in_err-tells_pages-clause-left : goal.returns-in_err-tells_pages-clause-left
