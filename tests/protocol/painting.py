@@ -2,6 +2,7 @@
 
 from __future__ import annotations
 
+import struct
 from hashlib import sha256
 from typing import Iterable, Iterator
 
@@ -88,3 +89,11 @@ def digest(drawops: Iterable[Drawop], page: Page) -> str:
     """The digest of a page, in hexadecimal."""
     ordered = sorted((it for it in drawops if it.page == page), key=lambda it: (it.source, it.seq))
     return sha256(b"".join(map(write, ordered))).hexdigest()
+
+
+def told(drawops: list[Drawop], page: Page, member: int) -> bytes:
+    """What a member that holds these drawops tells of a page."""
+    short = 14_695_981_039_346_656_037
+    for byte in b"".join(struct.pack(">II", *mark) for mark in marks(drawops, page).items()):
+        short = ((short ^ byte) * 1_099_511_628_211) % (1 << 64)
+    return struct.pack(">2sBBIIIIQ", b"WD", 1, 0, member, *page, len(missing(drawops, page)), short) + bytes.fromhex(digest(drawops, page))
