@@ -22,7 +22,7 @@ FIRST, FACTOR, BITS = 0xCBF29CE484222325, 0x100000001B3, 0xFFFFFFFFFFFFFFFF
 # what others hold of a page: what we do; more or less, or not all that was drawn has come; or as many drawops as we, and others
 SAME, NOT_YET, ANOTHER = "same", "not yet", "another"
 
-# how many tellings in a row say that a page is another until people are told: what is drawn meanwhile makes one
+# how many tellings in a row say that a page is another until the views say so: a drawing that is under way makes one
 TIMES = 2
 
 # tellings that wait, pages of members that are remembered, and digests of ours
@@ -51,7 +51,7 @@ def write(told: Told) -> bytes:
 
 
 def read(data: bytes) -> Optional[Told]:
-    """What is told, or None where the bytes tell nothing."""
+    """What the bytes tell, or None where they tell nothing."""
     if len(data) != LAYOUT.size or not data.startswith(MARK + bytes([VERSION, 0])):
         return None
     _, _, member, creator, number, missing, marks, digest = LAYOUT.unpack(data)
@@ -80,7 +80,7 @@ class Digests:
 
     def __init__(self, member: Member) -> None:
         self.member = member
-        self.ours: Dict[Page, Tuple[Any, int, bytes]] = {}  # by which host, of how many drawops
+        self.ours: Dict[Page, Tuple[Any, int, int, bytes]] = {}  # the host that gave it, of how many drawops, the marks in short, and the digest
         self.seen: Dict[Tuple[int, Page], Seen] = {}
         self.waiting: Dict[Tuple[int, Origin], Told] = {}
         self.lock = threading.Lock()
@@ -91,16 +91,16 @@ class Digests:
 
     def told(self, page: Page) -> Told:
         member, sheet = self.member, self.member.drawn.sheet(page)
-        host, count, digest = self.ours.pop(page, (None, 0, b""))
+        host, count, marks, digest = self.ours.pop(page, (None, 0, 0, b""))
         if (host, count) != (member.board.host, len(sheet.drawops)):
-            digest = member.board.digest(page)
-        self.ours[page] = member.board.host, len(sheet.drawops), digest
+            marks, digest = in_short(sheet.tops.items()), member.board.digest(page)
+        self.ours[page] = member.board.host, len(sheet.drawops), marks, digest
         if len(self.ours) > MOST_OURS:
             del self.ours[next(iter(self.ours))]
-        return Told(member.me, page, member.telling.reported.missing(page, member.drawn), in_short(sheet.tops.items()), digest)
+        return Told(member.me, page, member.telling.reported.missing(page, member.drawn), marks, digest)
 
     def hear(self, data: bytes, origin: Origin) -> None:
-        """A datagram came in from a member, on the carrier's thread. Of what is told before it is looked at, the last counts."""
+        """A datagram came in from a member, on the carrier's thread. The last that comes before the next turn counts."""
         told = read(data)
         if told is None or told.member == self.member.me:
             return
@@ -112,7 +112,7 @@ class Digests:
             self.member.inbox.call(self.take)
 
     def take(self) -> None:
-        """Looks at what is told. Nobody tells for another."""
+        """Looks at what came. Nobody tells for another."""
         with self.lock:
             waiting, self.waiting = self.waiting, {}
         for (number, origin), told in waiting.items():

@@ -120,7 +120,7 @@ def holds(member: Process, other: Process, what: str) -> bool:
 
 
 def test_members(two: List[Process], facts: Facts) -> None:
-    """They are told that they hold the same; and once one was given another drawing under the other's name, that they do not."""
+    """Each tells its people that the other holds the same; and once one got another drawing under the other's name, that it does not."""
     for number in range(40):
         two[number % 2].draw(PAGE, "line 0 %d 9 %d *" % (number, number))
     facts("both hold the same, though a third is lost", [holds(two[at], two[1 - at], SAME) for at in range(2)], [True, True])
