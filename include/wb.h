@@ -117,6 +117,7 @@ enum {
     WB_PAGE = 9,     /* a page: its creator and its number */
     WB_NEXT = 10,    /* the number of our next drawop on the page; no event if no number is left */
     WB_PAINTED = 11, /* the rows of a canvas, each with its line feed */
+    WB_DIGEST = 17,  /* the 32 bytes of a page's digest */
     /* of a judged host alone */
     WB_DROPPED = 12, /* what came is dropped: why, as a number (below) */
     WB_RECORD = 13,  /* a line of the record, a text without an end: it is to be in the record before any datagram behind it is sent */
@@ -133,7 +134,8 @@ enum {
     WB_ASK_REPORT = 4, /* WB_GREATEST for each source of the page */
     WB_ASK_PAGES = 5,  /* WB_PAGE for each page that has a drawop; the page that is given does not matter */
     WB_ASK_KNOWN = 6,  /* the same, also of pages that were only heard of */
-    WB_ASK_CANVAS = 7  /* one event WB_PAINTED; `show` is its line, and only this question looks at width and height */
+    WB_ASK_CANVAS = 7, /* one event WB_PAINTED; `show` is its line, and only this question looks at width and height */
+    WB_ASK_DIGEST = 8  /* one event WB_DIGEST */
 };
 
 /* Why a judged host drops what came: the words of the line `dropped` (docs/HOST-LINES.md). */

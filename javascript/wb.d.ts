@@ -79,6 +79,9 @@ export class Host {
     /** Of each source, the greatest number that is held of the page.
      * @param {string} page @returns {Map<number, number>} */
     report(page: string): Map<number, number>;
+    /** 32 bytes that two members compare: if they are equal, both hold the same drawops of the page.
+     * @param {string} page */
+    digest(page: string): Uint8Array;
     /** The pages that have drawops. */
     pages(): string[];
     /** The pages that have drawops, or were heard of. */

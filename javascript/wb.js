@@ -44,7 +44,7 @@ export const LISTENING = 6_000_000;
 const OUTCOMES = { 'batch 0 0 1 0': 'clash', 'batch 0 0 0 1': 'full' };
 
 /** The questions of include/wb.h, and the size of a number in an event. */
-const NEXT = 1, VIEW = 2, GAPS = 3, REPORT = 4, PAGES = 5, KNOWN = 6, CANVAS = 7, NUMBER = 4;
+const NEXT = 1, VIEW = 2, GAPS = 3, REPORT = 4, PAGES = 5, KNOWN = 6, CANVAS = 7, DIGEST = 8, NUMBER = 4;
 
 const MOST_NUMBER = 0xffffffff, letters = new TextDecoder('latin1');
 
@@ -220,6 +220,12 @@ export class Host {
    * @param {string} page @returns {Map<number, number>} */
   report(page) {
     return new Map(this.items(`report ${twoOf(page)}`, REPORT, page).map((bytes) => /** @type {[number, number]} */ (numbersIn(bytes))));
+  }
+
+  /** 32 bytes that two members compare: if they are equal, both hold the same drawops of the page.
+   * @param {string} page */
+  digest(page) {
+    return this.items(`digest ${twoOf(page)}`, DIGEST, page)[0] ?? new Uint8Array();
   }
 
   /** The pages that have drawops. */

@@ -364,6 +364,10 @@ class Board:
         gone = {(int(source), page, int(seq)) for word, source, seq in told if word == "hidden"}
         return Since(int(head.split(" ")[1]), gone, [(int(place), name_on(page, words), words) for word, place, words in told if word == "shown"])
 
+    def digest(self, page: Page) -> bytes:
+        """The digest of what is held of a page."""
+        return bytes.fromhex(self.tell("digest %d %d" % page).lines[0][7:])
+
     def pages(self, most: int) -> List[Page]:
         """The first `most` of the pages that are drawn on: first those of ours, then those of members, and of each kind first those drawn on last."""
         return [(int(creator), int(number)) for creator, number, _ in (line.split(" ") for line in self.tell("list %d" % most).lines[1:])]

@@ -20,8 +20,8 @@ PACE_BYTES = 1 << 20
 # seconds of the pace that may be saved up; those from where no member has spoken have a half of it
 SAVED = 0.05
 
-# how datagrams begin that are for drivers alone, and no host hears of: where one points, and that one is gone
-ASIDE = (b"WP", b"WG")
+# how datagrams begin that are for drivers alone, and no host hears of: where one points, what one holds of a page, and that one is gone
+ASIDE = (b"WP", b"WD", b"WG")
 
 
 def is_framed(data: bytes) -> bool:

@@ -15,13 +15,13 @@ from .heard import Heard, Other
 from .inbox import Arrival
 from .joining import Joining
 from .tails import Tails
-from .views import Datagram, Drawop, Name, Report, datagram_of, name_of
+from .views import SESSION, Datagram, Drawop, Name, Report, datagram_of, name_of
 
 if TYPE_CHECKING:
     from .member import Member
 
-# how a session message and a request begin
-SESSION, REQUEST = "57420102", "57420103"
+# how a request begins
+REQUEST = "57420103"
 
 # A member that was not heard for so long is not shown any more, and for some intervals between two reports, since of many members each
 # speaks more seldom than that; and an interval at most.

@@ -14,6 +14,7 @@ from .alarms import Alarms
 from .board import Board
 from .carriers.carrier import MOST_BYTES, Carrier, Origin
 from .carriers.mqtt import GONE
+from .digests import MARK as DIGESTS, Digests
 from .drawn import Drawn
 from .events import Events
 from .inbox import MOST_WAITING, Inbox
@@ -27,7 +28,7 @@ from .presence import Pointed, Presence, write
 from .record import Record
 from .replay import Playing
 from .telling import Telling
-from .views import Drawop, Name, Page, name_of
+from .views import Drawop, Name, Page, name_of, reported_in
 from .wire import Wire
 from .words import Words
 
@@ -71,6 +72,7 @@ class Member:
         self.people = People(self)
         self.telling = Telling(self, events)
         self.presence = Presence(me, events, lambda: self.inbox.call(lambda: None))
+        self.digests = Digests(self)
         self.leaving: Set[Origin] = set()  # of whom the network says that they are gone
         self.judging: Any = None
         self.board = Board(program, options, record, self.words, self.hold)
@@ -111,8 +113,12 @@ class Member:
                 self.telling.is_changed = True
 
     def hear_aside(self, data: bytes, origin: Origin) -> None:
-        """A datagram that no host hears of, on the carrier's thread: where somebody points, or that he who spoke from there is gone."""
-        if not data.startswith(GONE):
+        """A datagram that no host hears of, on the carrier's thread: where somebody points, what a member holds of a page, or that he who spoke from there
+        is gone."""
+        if data.startswith(DIGESTS):
+            if self.judging.is_known(origin):
+                self.digests.hear(data, origin)
+        elif not data.startswith(GONE):
             if not self.options.lock or self.judging.is_known(origin):
                 self.presence.hear(data)
         elif data[len(GONE):] == origin.text.encode() and origin not in self.leaving and len(self.leaving) < MOST_WAITING:
@@ -206,6 +212,9 @@ class Member:
         outgoing = self.judging.outgoing(digits)
         if outgoing is not None:
             self.send_out(outgoing)
+        page = reported_in(digits)
+        if page is not None:
+            self.digests.tell(page)
 
     def send_out(self, digits: str) -> None:
         data = bytes.fromhex(digits)

@@ -258,7 +258,7 @@ class Telling:
 
         told: List[Dict[str, Any]] = [{
             "member": number, "delay": None if other.delay is None else other.delay / 1000,
-            "heard": round((now - other.at) / SECOND, 1),
+            "heard": round((now - other.at) / SECOND, 1), "holds": self.member.digests.of(number, self.member.page),
         } for number, other in sorted(self.member.judging.present().items(), key=rank)[:MOST_MEMBERS]]
         self.events.tell("members", {"me": self.member.me, "members": sorted(told, key=lambda each: int(each["member"]))})
 

@@ -9,6 +9,7 @@ import threading
 from concurrent.futures import TimeoutError as TooLate
 from typing import Any, Callable, Dict, Iterable, List, Tuple
 
+from .digests import ANOTHER, NOT_YET, SAME
 from .events import Events, Watcher
 from .ink import FIRST_ROW, read
 from .letters import fitting, letter_rows
@@ -18,6 +19,9 @@ from .telling import notice_of
 from .views import Drawop, page_of
 
 HELP = 'line X0 Y0 X1 Y1 GLYPH | frame .. | text X Y "TEXT" | delete SOURCE SEQ | restore .. | undo | page C/N | new | number | who | wire | inks | quit'
+
+# what others hold of the page
+HOLDS = {SAME: "same page", NOT_YET: "not yet the same page", ANOTHER: "another page"}
 
 # rows at the foot: the state, what was last said, and the line that is typed
 FOOT = 3
@@ -121,8 +125,13 @@ class Terminal:
         health, others = self.state["health"], len(self.state["members"]["members"])
         there = "member %d and %d other%s" % (self.member.me, others, "" if others == 1 else "s")
         proof = self.state.get("hello", {}).get("proof", {}).get("progress")
-        told = ["page " + health.get("page", ""), health.get("phrase", ""), there, *self.below(), *health.get("warnings", [])[-1:]]
+        told = ["page " + health.get("page", ""), health.get("phrase", ""), there, *self.below(), *self.differing(), *health.get("warnings", [])[-1:]]
         return " | ".join((["NOT PROVED YET, " + proof] if proof else []) + told)
+
+    def differing(self) -> List[str]:
+        """The members that hold another page than we, and what people can do."""
+        others = [str(other["member"]) for other in self.state["members"]["members"] if other["holds"] == ANOTHER]
+        return ["ANOTHER PAGE AT %s: somebody drew twice under one name; keep both records, and go on in a new session" % ", ".join(others)] if others else []
 
     def below(self) -> List[str]:
         """What the rows of the page do not show, if there is any."""
@@ -156,7 +165,10 @@ class Terminal:
             return "refused: %s" % (str(fault) or "busy")
 
     def who(self) -> str:
-        told = ["%d%s" % (m["member"], "" if m["delay"] is None else " (%.1f ms)" % m["delay"]) for m in self.state["members"]["members"]]
+        def beside(other: Dict[str, Any]) -> List[str]:
+            return ([] if other["delay"] is None else ["%.1f ms" % other["delay"]]) + ([HOLDS[other["holds"]]] if other["holds"] else [])
+
+        told = ["%d%s" % (m["member"], " (%s)" % ", ".join(beside(m)) if beside(m) else "") for m in self.state["members"]["members"]]
         return ", ".join(told) or "nobody else is heard"
 
     def turn_wire(self) -> str:

@@ -23,6 +23,9 @@ MARKS = 64
 # how a drawop begins in hexadecimal, in either version, and where its source, the two numbers of its page and its own number stand
 DRAWOPS, NAMED = ("57420101", "57420201"), range(16, 48, 8)
 
+# and a session message
+SESSION = "57420102"
+
 
 def page_of(text: str) -> Page:
     """A page from `C/N`. ValueError where it is none."""
@@ -115,6 +118,11 @@ def name_of(digits: str) -> Optional[Name]:
         return None
     source, creator, number, seq = (int(digits[at:at + 8], 16) for at in NAMED)
     return source, (creator, number), seq
+
+
+def reported_in(digits: str) -> Optional[Page]:
+    """The page of a session message in hexadecimal; none of any other datagram."""
+    return (int(digits[40:48], 16), int(digits[48:56], 16)) if digits.startswith(SESSION) else None
 
 
 class Report:

@@ -14,6 +14,10 @@ const MOST_MEMBERS = 64, MOST_WARNINGS = 3;
  * @type {[string, import('./language.js').Key][]} */
 const MORE = [['lost', 'lostOnPurpose'], ['twice', 'twiceOnPurpose'], ['refused', 'manyRefused'], ['dropped', 'manyDropped'], ['foreign', 'manyForeign']];
 
+/** What a member holds of the page in view, if it has told that.
+ * @type {Record<import('./types.js').Holds, import('./language.js').Key>} */
+const HOLDS = { 'same': 'holdsSame', 'not yet': 'holdsNotYet', 'another': 'holdsAnother' };
+
 /** @param {number} seconds */
 export function ago(seconds) {
   if (seconds < 2) return wording('now');
@@ -47,7 +51,9 @@ export function showMembers({ session, painter, others, faces, follow }) {
     write(mark, member === session.hello.keeper ? '' : initialsOf(session.called.get(member), member));
     mark.style.setProperty('--c', painter.tintOf(member));
     write(words.firstChild, session.nameOf(member));
-    write(words.lastChild, whereOf(other, seen));
+    const where = whereOf(other, seen);
+    write(words.lastChild, other.holds ? wording('whereHolds', { where, holds: wording(HOLDS[other.holds]) }) : where);
+    words.lastChild.className = other.holds === 'another' ? 'lost' : '';
     write(button, wording(isFollowed ? 'isFollowed' : 'follow'));
     button.setAttribute('aria-pressed', String(isFollowed));
     button.hidden = isMe || member === session.hello.keeper;

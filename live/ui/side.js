@@ -14,7 +14,7 @@ export class Side {
     }
     $('fold').addEventListener('click', () => ($('side').hidden ? this.show(this.unread ? 'chat' : 'people') : this.close()));
     $('close-side').addEventListener('click', () => this.close());
-    $('state').addEventListener('click', () => this.show('net'));
+    $('state').addEventListener('click', () => this.show(board.state?.isAnother ? 'people' : 'net'));
     $('side').addEventListener('keydown', (/** @type {KeyboardEvent} */ event) => event.key === 'Escape' && this.close());
     board.session.on('notes', ({ said }) => this.count(said));
   }

@@ -35,11 +35,14 @@ export class State {
     this.full = 0;
     /** @type {Health | null} */
     this.health = null;
+    /** Whether somebody holds another page than we. */
+    this.isAnother = false;
     for (const name of ['link', 'unsent']) session.on(name, () => this.show());
     session.on('link', (link) => (link !== 'open' || this.health) && say(linked(link, session.unsent) || wording('boardBack')));
     session.on('health', (health) => this.take(health));
     session.on('notes', () => this.showNext());
-    $('go-on').addEventListener('click', () => this.goOn());
+    session.on('members', ({ members }) => this.compare(members));
+    for (const name of ['go-on', 'another-on']) $(name).addEventListener('click', () => this.goOn());
   }
 
   /** @param {Health} health */
@@ -51,10 +54,21 @@ export class State {
     this.showNext();
   }
 
+  /** Tells who holds another page than we, and what can be done.
+   * @param {import('./types.js').Other[]} members */
+  compare(members) {
+    const { session } = this.board, names = members.filter(({ holds }) => holds === 'another').map(({ member }) => session.nameOf(member));
+    this.isAnother = names.length > 0;
+    $('another').hidden = !this.isAnother;
+    if (this.isAnother) write($('another').querySelector('span'), wording('anotherPage', { page: session.titleOf(session.board.page), names: names.join(', ') }));
+    this.show();
+  }
+
   /** By the connection, and if that is there by the health. */
   show() {
     const { session: { link, unsent, hello } } = this.board, button = $('state'), away = linked(link, unsent);
-    const { kind, text } = away || !this.health ? { kind: 'lost', text: away || wording('connecting') } : plainly(this.health, hello.ready);
+    const told = away || !this.health ? { kind: 'lost', text: away || wording('connecting') } : plainly(this.health, hello.ready);
+    const { kind, text } = this.isAnother && !away ? { kind: 'lost', text: wording('notTheSame') } : told;
     button.className = `island ${kind}`;
     button.title = text;
     write(button.querySelector('span'), text);

@@ -206,6 +206,12 @@ export const TEXTS = {
       "zero": "لا ينقص شيء", "one": "جارٍ جلب رسم واحد", "two": "جارٍ جلب رسمين", "few": "جارٍ جلب {n} رسوم", "many": "جارٍ جلب {n} رسمًا", "other": "جارٍ جلب {n} رسم"
     }
   ],
+  "notTheSame": ["Not the same for all", "Nicht für alle gleich", "ليست نفسها عند الجميع"],
+  "anotherPage": [
+    "{page} is not the same at {names}: somebody drew twice under one name. Save it as a picture or a film at both, and go on on a new board.",
+    "{page} ist bei {names} eine andere: jemand hat unter einem Namen zweimal gezeichnet. Sichere sie bei beiden als Bild oder Film, und mach auf einer neuen Tafel weiter.",
+    "{page} ليست نفسها عند {names}: رسم أحدهم مرتين باسم واحد. احفظها عند الطرفين صورةً أو فيلمًا، وأكمل على سبورة جديدة."
+  ],
   "everythingHere": ["Everything is here", "Alles ist da", "كل شيء هنا"],
   "fullNow": ["This board is full.", "Diese Tafel ist voll.", "هذه السبورة ممتلئة."],
   "fullPart": ["This board is {percent} % full.", "Diese Tafel ist zu {percent} % voll.", "امتلأ {percent} % من هذه السبورة."],
@@ -243,6 +249,10 @@ export const TEXTS = {
   "followsYou": ["follows you", "folgt dir", "يتابعك"],
   "follows": ["follows {name}", "folgt {name}", "يتابع {name}"],
   "onPage": ["on {page}", "auf {page}", "في {page}"],
+  "whereHolds": ["{where} · {holds}", "{where} · {holds}", "{where} · {holds}"],
+  "holdsSame": ["same page", "gleiche Seite", "الصفحة نفسها"],
+  "holdsNotYet": ["not yet the same page", "noch nicht die gleiche Seite", "ليست الصفحة نفسها بعد"],
+  "holdsAnother": ["another page", "eine andere Seite", "صفحة أخرى"],
   "here": ["here", "hier", "هنا"],
   "heard": ["heard {ago}", "{ago} gehört", "آخر إشارة {ago}"],
   "now": ["now", "gerade", "الآن"],

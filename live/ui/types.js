@@ -24,8 +24,10 @@
 /** A page of the session, in the order in which all number them: how many drawops it has, and when something was drawn there or restored last.
  * @typedef {{ page: string, drawn: number, last?: string }} Leaf
  * @typedef {{ page: string, pages: Leaf[] }} Pages */
-/** Another member: the delay to it in milliseconds, and how many seconds ago it was heard.
- * @typedef {{ member: number, delay?: number | null, heard?: number | null, page?: string | null }} Other */
+/** What another holds of the page in view: what we do; not yet, since something is under way; or as many drawings as we, and others.
+ * @typedef {'same' | 'not yet' | 'another'} Holds */
+/** Another member: the delay to it in milliseconds, how many seconds ago it was heard, and what it holds, if it has told that.
+ * @typedef {{ member: number, delay?: number | null, heard?: number | null, page?: string | null, holds?: Holds | null }} Other */
 /** @typedef {{ members: Other[] }} Members */
 /** @typedef {{ phrase: string, missing: number, taken: number, cells: number, warnings: string[], counts: Record<string, number> }} Health */
 /** A datagram that went by. `held` says whether the drawop that a request names was held when it came.

@@ -70,6 +70,10 @@ class Lines:
         rows = [line.split() for line in found or []]
         return None if found is None else {int(source): int(number) for source, number in rows}
 
+    def digest(self, page: Page) -> Optional[bytes]:
+        block = self.by.ask("digest %d %d" % page)
+        return None if block.fault is not None else bytes.fromhex(block.lines[0][7:])
+
     def pages(self, word: str) -> Optional[List[Page]]:
         found = self.items(word)
         return None if found is None else [Page(*map(int, line.split())) for line in found]

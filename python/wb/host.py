@@ -134,6 +134,10 @@ class Host:
         """Of each source, the greatest number that is held of the page."""
         return self.found("report %d %d" % page_of(page), self.calls.report(page_of(page)))
 
+    def digest(self, page: AnyPage) -> bytes:
+        """32 bytes that two members compare: if they are equal, both hold the same drawops of the page."""
+        return self.found("digest %d %d" % page_of(page), self.calls.digest(page_of(page)))
+
     def pages(self) -> List[Page]:
         """The pages that have drawops."""
         return self.found("pages", self.calls.pages("pages"))

@@ -24,13 +24,13 @@ FIELDS = ("sequence number 0", "coordinate over 4095", "glyph outside ! to ~", "
           "target sequence number 0", "target is the drawop itself")
 
 # the kinds of events
-SENT, NEW, AGAIN, CLASH, LEFT, SHOWN, MISSING, GREATEST, PAGE, NEXT, PAINTED, DROPPED, RECORD, DREW, FETCH, WARN = range(1, 17)
+SENT, NEW, AGAIN, CLASH, LEFT, SHOWN, MISSING, GREATEST, PAGE, NEXT, PAINTED, DROPPED, RECORD, DREW, FETCH, WARN, DIGEST = range(1, 18)
 FATES = {NEW: Became.NEW, AGAIN: Became.AGAIN, CLASH: Became.CLASH, LEFT: Became.FULL}
 DROPS = ("datagram", "own", "speaks", "crowd", "mark", "stranger", "flood", "again", "ahead", "full", "share", "pages")
 WARNINGS = ("speaks", "mark", "twin", "full", "share")
 
 # the questions
-ASK_NEXT, ASK_VIEW, ASK_GAPS, ASK_REPORT, ASK_PAGES, ASK_KNOWN, ASK_CANVAS = range(1, 8)
+ASK_NEXT, ASK_VIEW, ASK_GAPS, ASK_REPORT, ASK_PAGES, ASK_KNOWN, ASK_CANVAS, ASK_DIGEST = range(1, 9)
 
 NEVER = 2**64 - 1
 MOST_NUMBER = 2**32 - 1
@@ -234,6 +234,10 @@ class Bytes(Lines):
         found = self.asked(ASK_REPORT, page)
         rows = [numbers(item) for item in found or []]
         return None if found is None else {source: number for source, number in rows}
+
+    def digest(self, page: Page) -> Optional[bytes]:
+        found = self.asked(ASK_DIGEST, page)
+        return found[0] if found else None
 
     def pages(self, word: str) -> Optional[List[Page]]:
         found = self.asked(ASK_PAGES if word == "pages" else ASK_KNOWN)

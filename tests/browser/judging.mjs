@@ -4,6 +4,7 @@ import { Alarms } from '../../web/member/alarms.js';
 import { Board } from '../../web/member/board.js';
 import { FEW, NEAR, SEVERAL } from '../../web/member/constants.js';
 import { hex, readDatagram, unhex } from '../../web/member/datagram.js';
+import { Digests } from '../../web/member/digests.js';
 import { Drawn } from '../../web/member/drawn.js';
 import { Answer, Block } from '../../web/member/host.js';
 import { Judging } from '../../web/member/judging.js';
@@ -85,6 +86,7 @@ function memberOf({ isReady = true, cells = 1_000, strange = [] } = {}) {
   Object.assign(board, { host, me: 1, cells, readyAt: isReady ? 0 : SECOND, strange: new Set(strange), wall: Date.now() * 1_000, now: () => member.at });
   Object.assign(member, { board, hold: (drawop) => member.drawn.add(drawop), obey: (answer) => answer, wake: () => {}, mayPart: () => false, begin: async () => { member.isReady = true; },
     tick: async () => { ticks.push(member.at); }, send: (bytes) => { sent.push(hex(bytes)); return readDatagram(bytes); } });
+  member.digests = new Digests(member);
   member.telling = new Telling(member, (name, news) => { member[name] = news; });
   member.people = new People(member);
   member.judging = new Judging(member);
@@ -455,7 +457,7 @@ async function testMembers() {
   member.host.members(...Array.from({ length: 600 }, (_, i) => `${i + 2} p${i + 2} - 10`), `900 ${wordOf(X)} 10 10`);
   await heed(member, 'session-message 900 77 7/1 1@2+4');
   member.telling.tellMembers();
-  check('by their numbers', [member.members.members.length, member.members.members.slice(-2)], [500, [{ member: 500, delay: null, heard: 0 }, { member: 900, delay: 0.002, heard: 0 }]]);
+  check('by their numbers', [member.members.members.length, member.members.members.slice(-2)], [500, [{ member: 500, delay: null, heard: 0, holds: null }, { member: 900, delay: 0.002, heard: 0, holds: null }]]);
 }
 
 const TESTS = [testOrigins, testReports, testWarnings, testClash, testRefused, testRecord, testHeard, testMoves, testNear, testFollowed, testPatience, testTime, testRoom, testKeptCells, testWaiting, testNewPage, testLast, testPages, testHealth, testShowings, testMembers];

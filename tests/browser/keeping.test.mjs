@@ -453,7 +453,7 @@ async function testTwins(program) {
 /** Somebody who hears us speaks under our number and echoes us. We draw on by a new one with all that is held, eight times in an hour. */
 async function testForgedTwin(program) {
   const network = new Map(), heard = [], begun = [], eve = { place: 'wb/eve', owner: null };
-  network.set('ear', (bytes) => heard.push(readDatagram(bytes)));
+  network.set('ear', (bytes) => heard.push(...[readDatagram(bytes)].filter(Boolean)));
   const fresh = async () => { const me = 20 + begun.length; return { me, record: new Record(null, 'here', me) }; };
   const member = await memberOf(program, network, 11, new Record(null, 'here', 11), false, 'a', { fresh, begun: () => begun.push(member.me) });
   const speakFor = async (me) => {

@@ -7,6 +7,7 @@ import { Drawn } from '../../web/member/drawn.js';
 import { Block } from '../../web/member/host.js';
 import { Inbox } from '../../web/member/inbox.js';
 import { forOthers, newName, readInvitation, writeInvitation } from '../../web/member/invitation.js';
+import { Digests, inShort, judged, readTold, writeTold } from '../../web/member/digests.js';
 import { Judging } from '../../web/member/judging.js';
 import { Member } from '../../web/member/member.js';
 import { Panel } from '../../web/member/panel.js';
@@ -317,6 +318,32 @@ async function testPresences() {
   check('nor of too many members', presence.others.size <= 64, true);
 }
 
+/** The bytes of docs/vectors, what is concluded of them, and who may tell. */
+async function testDigests() {
+  const { pages } = JSON.parse(readFileSync(new URL('../../docs/vectors/pages.json', import.meta.url), 'utf8'));
+  for (const { shows, page, marks, missing, digest, told } of pages) {
+    const said = { member: 9, page, missing: missing.length, marks: inShort(marks.map((mark) => mark.split(' ').map(Number))), digest }, bytes = writeTold(said);
+    check(`what tells of a page: ${shows}`, [Buffer.from(bytes).toString('hex'), readTold(bytes)], [told, said]);
+  }
+  const ours = readTold(Uint8Array.from(Buffer.from(pages[0].told, 'hex'))), other = { ...ours, digest: '00'.repeat(32) };
+  check('an equal digest, another once and twice', [judged(ours, { ...ours, marks: 1n, missing: 5 }, 9), judged(ours, other, 0), judged(ours, other, 1)],
+    [{ state: 'same', times: 0 }, { state: 'not yet', times: 1 }, { state: 'another', times: 2 }]);
+  check('other marks, or something is missing', [judged(ours, { ...other, marks: 1n }, 5), judged(ours, { ...other, missing: 1 }, 5), judged({ ...ours, missing: 1 }, other, 5)].map(({ state, times }) => [state, times]), Array(3).fill(['not yet', 0]));
+  check('what is none', [writeTold(ours).subarray(1), Uint8Array.of(87, 80, ...writeTold(ours).subarray(2))].map(readTold), [null, null]);
+  const sent = [], asked = [], sheet = { drawops: new Map([[1, 1]]), tops: new Map([[7, 3]]) };
+  const member = { me: 1, wake: () => {}, board: { host: 1, digest: async (page) => asked.push(page) && ours.digest }, drawn: { sheet: () => sheet }, telling: { reported: { missing: () => 0 } },
+    transport: { send: (bytes) => sent.push(readTold(bytes)) }, judging: { heard: { isOf: (number, { place }) => place === `at ${number}` } } };
+  const digests = new Digests(member), hear = async (number, place) => {
+    digests.hear(writeTold({ ...ours, member: number }), { place, owner: null });
+    await digests.turn();
+    return digests.of(number, ours.page);
+  };
+  check('a member’s, one under another’s number, and our own', [await hear(2, 'at 2'), await hear(3, 'at 2'), await hear(1, 'at 1')], ['same', null, null]);
+  digests.reported.add('7/1');
+  await digests.turn();
+  check('ours goes out, and the host is asked once for as many drawops', [sent.map(({ digest }) => digest), asked.length], [[ours.digest], 1]);
+}
+
 function testAlarms() {
   const alarms = new Alarms();
   for (let i = 0; i < 10; i += 1) alarms.warn(`warning ${i}`);
@@ -395,5 +422,5 @@ async function testDatabase() {
 }
 
 const TESTS = [testBlocks, testWords, testDatagrams, testDrawn, testInvitations, testInviting, testSeal, testEnvelope, testSealVectors, testSealed, testCounters, testLateRecording, testPackets, testBrokers, testInbox, testWire, testWireBounds,
-  testPresence, testPresences, testAlarms, testRecords, testDatabase, testReported, testJudging, testTails, testConstants];
+  testPresence, testPresences, testDigests, testAlarms, testRecords, testDatabase, testReported, testJudging, testTails, testConstants];
 for (const each of TESTS) test(each.name.slice('test'.length), each);

@@ -13,7 +13,7 @@ SESSIONS = (TOP / "crates" / "wb_judged_sessions" / "specs" / "Sessions.antt").r
 
 # each case of `JudgedCall`, and the first words of its lines
 CASES = {"Starts": {"board", "judge", "held"}, "Takes": {"came", "tick", "add", "wall", "gone", "held"}, "Tunes": {"tuning"}}
-ASKS = {"members", "list", "lacks", "paint", "since", "words", "show", "view", "gaps", "report", "pages", "known", "next", "version"}
+ASKS = {"members", "list", "lacks", "paint", "since", "words", "show", "view", "gaps", "report", "pages", "known", "next", "version", "digest"}
 RECORDED = {"datagram", "say"}  # a record has such lines, and `held` says them
 
 # where a line is said: its first word before what is put into it, or alone

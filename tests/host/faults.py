@@ -102,7 +102,7 @@ MISTYPED = {
 def mistyped() -> dict[str, str]:
     """The same, with the lines that have a page and nothing else."""
     table = dict(MISTYPED)
-    for word in "look", "session", "gaps", "report", "next", "view":
+    for word in "look", "session", "gaps", "report", "digest", "next", "view":
         table[f"{word} 7"] = "words"
         table[f"{word} 7 1 1"] = "words"
         table[f"{word} 4294967296 1"] = "number"

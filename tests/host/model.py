@@ -7,6 +7,7 @@ from __future__ import annotations
 
 from collections.abc import Iterable, Sequence
 from dataclasses import dataclass, field
+from hashlib import sha256
 from itertools import islice
 from typing import NamedTuple, Optional
 
@@ -238,6 +239,10 @@ class Model:
 
     def report(self, page: Page) -> str:
         return listed("report", self.highest(page))
+
+    def digest(self, page: Page) -> str:
+        held = sorted(drawop for drawop in self.held.values() if drawop.name.page == page)
+        return f"digest {sha256(bytes.fromhex(''.join(drawop.digits() for drawop in held))).hexdigest()}\n"
 
     def pages(self) -> str:
         return listed("pages", self.drawn_on())

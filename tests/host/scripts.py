@@ -59,7 +59,7 @@ class Writer:
 
     def question(self) -> str:
         creator, number = self.random.choice(PAGES)
-        word = self.random.choice(["look", "look", "session", "gaps", "report", "show"])
+        word = self.random.choice(["look", "look", "session", "gaps", "report", "digest", "show"])
         return f"{word} {creator} {number}{' 12 6' if word == 'show' else ''}"
 
     def line(self) -> str:

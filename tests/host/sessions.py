@@ -111,7 +111,7 @@ class Session:
 
     def page_line(self) -> tuple[str, str]:
         page = self.page()
-        word = self.random.choice(["look", "look", "session", "gaps", "report", "next", "view"])
+        word = self.random.choice(["look", "look", "session", "gaps", "report", "digest", "next", "view"])
         return f"{word} {page[0]} {page[1]}", getattr(self.model, word)(page)
 
     def other(self) -> tuple[str, str]:

@@ -294,7 +294,7 @@ class JudgedSession(Session):
             ("list 9", lambda: self.judged.listing(9)),
             (f"since {page[0]} {page[1]} {count}", lambda: self.judged.since(page, count)),
             (f"lacks {page[0]} {page[1]}", lambda: self.judged.lacks(page)),
-            *((f"{word} {page[0]} {page[1]}", lambda word=word: getattr(self.model, word)(page)) for word in ("gaps", "report", "next", "view")),
+            *((f"{word} {page[0]} {page[1]}", lambda word=word: getattr(self.model, word)(page)) for word in ("gaps", "report", "digest", "next", "view")),
         ]
         line_, does = self.random.choice(ways)
         return line_, self.answered(does)

@@ -239,7 +239,7 @@ class KeptSession(Session):
 
     def asking(self) -> tuple[str, str]:
         page = self.page()
-        word = self.random.choice(["gaps", "report", "next", "view"])
+        word = self.random.choice(["gaps", "report", "digest", "next", "view"])
         return f"{word} {page[0]} {page[1]}", getattr(self.model, word)(page) + f"ok {self.kept.due()}\n"
 
     def answered(self, does: Callable[[], str]) -> str:

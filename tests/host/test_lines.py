@@ -54,7 +54,7 @@ def test_asked_names() -> None:
 def test_closings() -> None:
     """As many lines look as if they closed a block as there are blocks, whatever is asked but `show`, and whatever texts say."""
     said = [f'say draw 1 7/1 {seq} 5 text 0 {seq} "{text}"' for seq, text in enumerate(["ok never", "ok 5", "refused unknown"], 901)]
-    views = [f"{word} {creator} {number}" for creator, number in PAGES for word in ("view", "next", "gaps", "report", "session", "look")]
+    views = [f"{word} {creator} {number}" for creator, number in PAGES for word in ("view", "next", "gaps", "report", "digest", "session", "look")]
     for seed in range(1, 9):
         lines = [line for line in Writer(seed).script(120) if not line.startswith("show ")]
         lines += [*said, *views, "known", "pages", "fly", "show 7 1", "ask 7 1 8 3", "stop 7 1 8 3", "tick 900000000"]

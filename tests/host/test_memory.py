@@ -27,6 +27,7 @@ known
 show 7 1 5 2
 gaps 7 1
 report 7 1
+digest 7 1
 session 7 1
 hear 574201040000000400000009
 draw 7 7/1

@@ -1,4 +1,5 @@
 // The package over the module that WB_MODULE names.
+import { createHash } from 'node:crypto';
 import { appendFileSync, mkdtempSync, readFileSync, rmSync, writeFileSync } from 'node:fs';
 import { tmpdir } from 'node:os';
 import { join } from 'node:path';
@@ -85,8 +86,10 @@ test('two hosts: what one draws is shown by the other, and what is refused chang
   check('after which it is known too', two.due, due);
   check('time goes on', await raised(() => two.tick(10)), 'Refused');
   check('questions', [await two.report('1/1'), await two.gaps('1/1'), await two.pages(), await two.known(), await two.nextNumber('1/1'), await two.version()], [[[1, 1]], [], ['1/1'], ['1/1'], 1, 1]);
-  await two.add(2000, 6, '1/1', 'text 0 0 "ok 7"');
+  const said = await two.add(2000, 6, '1/1', 'text 0 0 "ok 7"');
   check('a row that looks like a closing line is a row', (await two.show('1/1', 4, 2))[0], 'ok 7');
+  const hashed = (...datagrams) => datagrams.reduce((hash, bytes) => hash.update(bytes), createHash('sha256')).digest('hex'), digest = (host, page) => Buffer.from(host.digest(page)).toString('hex');
+  check('a digest is of what is held of the page', [digest(one, '1/1'), digest(two, '1/1'), digest(two, '1/2')], [hashed(drawn.send[0]), hashed(drawn.send[0], said.send.at(-1)), hashed()]);
   const many = await Promise.all([1, 2, 3].map((at) => one.add(2000 + at, 5 + at, '1/1', `line 0 ${at} 4 ${at} *`)));
   check('calls that overlap are done in their order', many.map((answer) => answer.send.length), [1, 1, 1]);
   one.end();

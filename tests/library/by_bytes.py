@@ -13,7 +13,7 @@ from .calls import Host
 SENT, NEW, AGAIN, CLASH, LEFT, SHOWN, MISSING, GREATEST, PAGE, NEXT, PAINTED, DROPPED, RECORD, DREW, FETCH, WARN = range(1, 17)
 NEVER = 2**64 - 1
 BATCHES = {NEW: "batch 1 0 0 0", AGAIN: "batch 0 1 0 0", CLASH: "batch 0 0 1 0", LEFT: "batch 0 0 0 1"}
-QUESTIONS = {"next": 1, "view": 2, "gaps": 3, "report": 4, "pages": 5, "known": 6, "show": 7}
+QUESTIONS = {"next": 1, "view": 2, "gaps": 3, "report": 4, "pages": 5, "known": 6, "show": 7, "digest": 8}
 REFUSED = {7: "not kept", 8: "number", 9: "back in time", 10: "listening", 11: "ours", 12: "too many", 17: "twin", 18: "full", 19: "number"}
 FIELDS = ["sequence number 0", "coordinate over 4095", "glyph outside ! to ~", "text of 0 or over 64 bytes", "text byte outside space to ~",
           "target sequence number 0", "target is the drawop itself"]
@@ -128,6 +128,8 @@ class ByBytes(Host):
             return self.said(status, events[0].decode().splitlines())
         if word == "next":
             return self.said(status, [f"next {numbers(its)[0]}" for its in events])
+        if word == "digest":
+            return self.said(status, [f"digest {its.hex()}" for its in events])
         rows = in_words([its.hex() for its in events]) if word == "view" and events else [" ".join(map(str, numbers(its))) for its in events]
         return self.said(status, [f"{word} {len(rows)}", *rows])
 

@@ -214,10 +214,10 @@ def test_header_has_each_event_and_question() -> None:
     judged = (folder / "judged_event.rt").read_text()
     events = re.findall(r"Event::(\w+)(?:\(_\))? => (\d+),", (folder / "event.rt").read_text())
     events += [(name, number) for name, number in re.findall(r"Event::(\w+)(?:\(_\)| \{ \.\. \}) => (\d+),", judged) if name != "Send"]
-    assert kinds == {name.upper(): number for name, number in events} and len(kinds) == 16
+    assert kinds == {name.upper(): number for name, number in events} and len(kinds) == 17
     asked = re.findall(r"^    WB_ASK_(\w+) = (\d+)", header.split("enum {")[3], re.MULTILINE)
     questions = re.findall(r"question == (\d) \{\s*return (?:Some\(Query::)?(\w+)", (folder / "query.rt").read_text())
-    assert asked == [(name.upper(), number) for number, name in questions] and len(asked) == 7
+    assert asked == [(name.upper(), number) for number, name in questions] and len(asked) == 8
 
 
 def test_header_has_each_reason_and_warning() -> None:

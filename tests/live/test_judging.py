@@ -10,6 +10,7 @@ from live.board import SLACK, Board
 from live.carriers.carrier import Origin
 from live.clock import SECOND, wall
 from live.constants import NEAR
+from live.digests import Digests
 from live.drawn import Drawn
 from live.heard import PATIENCE, PAUSE
 from live.joining import FETCH_AGAIN, FETCH_PAUSE, MANY
@@ -64,6 +65,7 @@ class One:
         self.board.wall = wall()
         self.me, self.is_ready = 1, True
         self.telling = Telling(self, None)  # type: ignore[arg-type]
+        self.digests = Digests(self)  # type: ignore[arg-type]
         self.judging = Judging(self)  # type: ignore[arg-type]
 
     def heed(self, words: str, origin: Origin = X, sent: Optional[List[str]] = None) -> Optional[str]:

@@ -2,9 +2,11 @@
 
 from __future__ import annotations
 
+import struct
+from hashlib import sha256
 from typing import Iterable, Iterator
 
-from .codec import DELETE, LINE, Aim, Drawop, Page, Shape, Text
+from .codec import DELETE, LINE, Aim, Drawop, Page, Shape, Text, write
 
 Cell = tuple[int, int]
 
@@ -81,3 +83,17 @@ def missing(drawops: Iterable[Drawop], page: Page) -> list[tuple[int, int]]:
     """Each name that is missing below the tops of what is held, by source and number."""
     has = {(it.source, it.seq) for it in drawops if it.page == page}
     return [(source, seq) for source, high in marks(drawops, page).items() for seq in range(1, high + 1) if (source, seq) not in has]
+
+
+def digest(drawops: Iterable[Drawop], page: Page) -> str:
+    """The digest of a page, in hexadecimal."""
+    ordered = sorted((it for it in drawops if it.page == page), key=lambda it: (it.source, it.seq))
+    return sha256(b"".join(map(write, ordered))).hexdigest()
+
+
+def told(drawops: list[Drawop], page: Page, member: int) -> bytes:
+    """What a member that holds these drawops tells of a page."""
+    short = 14_695_981_039_346_656_037
+    for byte in b"".join(struct.pack(">II", *mark) for mark in marks(drawops, page).items()):
+        short = ((short ^ byte) * 1_099_511_628_211) % (1 << 64)
+    return struct.pack(">2sBBIIIIQ", b"WD", 1, 0, member, *page, len(missing(drawops, page)), short) + bytes.fromhex(digest(drawops, page))

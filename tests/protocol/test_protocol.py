@@ -43,7 +43,7 @@ def line_of(data: bytes) -> str:
 def script_of(page: Page, came: list[Drawop]) -> list[str]:
     """The life of a member to which these drawops came, and what it is asked."""
     asked_of = f"{page.creator} {page.number}"
-    return ["board 1 1000 1 1", *(line_of(codec.write(it)) for it in came), f"show {asked_of} {WIDTH} {HEIGHT}", f"report {asked_of}", f"gaps {asked_of}"]
+    return ["board 1 1000 1 1", *(line_of(codec.write(it)) for it in came), f"show {asked_of} {WIDTH} {HEIGHT}", f"report {asked_of}", f"gaps {asked_of}", f"digest {asked_of}"]
 
 
 def told_by_program(page: Page, came: list[Drawop]) -> dict[str, object]:
@@ -53,7 +53,7 @@ def told_by_program(page: Page, came: list[Drawop]) -> dict[str, object]:
     marks = [next(lines) for _ in range(int(next(lines).split()[1]))]
     ranges = [list(map(int, next(lines).split())) for _ in range(int(next(lines).split()[1]))]
     missing = [f"{source} {seq}" for source, first, last in ranges for seq in range(first, last + 1)]
-    return {"rows": rows, "marks": marks, "missing": missing}
+    return {"rows": rows, "marks": marks, "missing": missing, "digest": next(lines).removeprefix("digest ")}
 
 
 def told_here(page: Page, came: list[Drawop]) -> dict[str, object]:
@@ -62,6 +62,7 @@ def told_here(page: Page, came: list[Drawop]) -> dict[str, object]:
         "rows": painting.canvas(held, page, WIDTH, HEIGHT),
         "marks": [f"{source} {high}" for source, high in painting.marks(held, page).items()],
         "missing": [f"{source} {seq}" for source, seq in painting.missing(held, page)],
+        "digest": painting.digest(held, page),
     }
 
 
@@ -129,5 +130,5 @@ def test_vector_of_a_page(vector: dict[str, Any]) -> None:
     read = [codec.read(bytes.fromhex(line.split()[1])) for line in asked(["hex"], vector["came"])]
     came = [it for it in read if isinstance(it, Drawop)]
     rows = [row.ljust(WIDTH) for row in vector["rows"]]
-    wanted = {"rows": rows + [" " * WIDTH] * (HEIGHT - len(rows)), "marks": vector["marks"], "missing": vector["missing"]}
+    wanted = {"rows": rows + [" " * WIDTH] * (HEIGHT - len(rows)), "marks": vector["marks"], "missing": vector["missing"], "digest": vector["digest"]}
     assert (told_here(page, came), told_by_program(page, came)) == (wanted, wanted)

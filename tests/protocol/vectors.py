@@ -10,7 +10,7 @@ from .codec import DELETE, FRAME, LINE, RESTORE, Aim, AskPages, Datagram, Drawop
 from .random_values import HEIGHT, WIDTH
 from .words import page_words, words_of
 
-FIRST = Page(7, 1)
+FIRST, TELLER = Page(7, 1), 9
 LAST = (1 << 32) - 1
 LONGEST = (1 << 64) - 1
 
@@ -183,11 +183,13 @@ def page_vector(shows: str, came: list[Drawop]) -> dict[str, object]:
         "rows": rows,
         "marks": [f"{source} {high}" for source, high in painting.marks(held, FIRST).items()],
         "missing": [f"{source} {seq}" for source, seq in painting.missing(held, FIRST)],
+        "digest": painting.digest(held, FIRST),
+        "told": painting.told(held, FIRST, TELLER).hex(),
     }
 
 
 def write_all(folder: Path) -> None:
-    what = f"Drawops in the order in which they came, and what page 7/1 then shows in {WIDTH} columns and {HEIGHT} rows (spaces at the ends are left out), reports and lacks (docs/PROTOCOL.md)"
+    what = f"Drawops in the order in which they came, and what page 7/1 then shows in {WIDTH} columns and {HEIGHT} rows (spaces at the ends are left out), reports and lacks, its digest, and the datagram by which member {TELLER} tells it (docs/PROTOCOL.md)"
     pages = {"what": what, "pages": [page_vector(shows, came) for shows, came in PAGES]}
     timers, sealed, tagged = timer_vectors.all_vectors(), sealed_vectors.all_vectors(), sealed_vectors.tagged_vectors()
     for name, content in (("datagrams.json", datagram_vectors()), ("pages.json", pages), ("timers.json", timers), ("sealed.json", sealed), ("tagged.json", tagged)):

@@ -6,6 +6,7 @@ import os
 import random
 import threading
 import time
+from hashlib import sha256
 
 import pytest
 import wb
@@ -38,6 +39,8 @@ def test_two(start: Start, facts: Facts) -> None:
         facts("a row that looks like a closing line is a row", (rows.became, two.show("1/1", 4, 2)[0]), (wb.Became.NEW, "ok 7"))
         facts("what is new is told with its name, its page and what it draws", [(each.name, each.drawing) for each in (drawn.drawop, rows.drawop) if each],
               [((1, (1, 1), 1), wb.Line(0, 0, 4, 0, "*")), ((2, (1, 1), 1), wb.Text(0, 0, "ok 7"))])
+        digests = [one.digest("1/1"), sha256(drawn.send[0]).digest(), two.digest((1, 1)), sha256(drawn.send[0] + rows.send[-1]).digest(), two.digest("1/2")]
+        facts("a digest is of what is held of the page", [digests[0] == digests[1], digests[2] == digests[3], digests[4]], [True, True, sha256().digest()])
         two.tune(3, 16, 1, 11)
         facts("a text of 64 characters, in another host", one.came(4000, two.add(3000, 8, "1/1", 'text 0 1 "%s"' % ("x" * 64)).send[-1]).became, wb.Became.NEW)
 
@@ -47,8 +50,8 @@ def test_refusals(start: Start) -> None:
         assert refused(lambda: host.add(2001, 6, "1/1", wb.Delete(2, 1))) == "word 6: target is the drawop itself"
         assert refused(lambda: host.add(3000, 7, "1/1", 'text 0 0 "\U0001f600"')) == "word 7: text byte outside space to ~"
         assert raised(lambda: host.add(3000, 7, "1/1", LINE + "\n")) == "ValueError"
-        questions = [lambda: host.show("1/1", 0, 1), lambda: host.gaps((1, 2**32)), lambda: host.view((-1, 1))]
-        assert [refused(call) for call in questions] == ["number"] * 3
+        questions = [lambda: host.show("1/1", 0, 1), lambda: host.gaps((1, 2**32)), lambda: host.view((-1, 1)), lambda: host.digest((1, 2**32))]
+        assert [refused(call) for call in questions] == ["number"] * 4
 
 
 def test_full(start: Start) -> None:
@@ -129,7 +132,8 @@ class Meeting:
             moments = [host.due for host in self.hosts if host.due is not None] + [each[0] for each in self.under_way]
             self.now = max(self.now + 1, min(moments + ([drawn * 20_000] if drawn < draws else [])))
         views = [host.view("1/1") for host in self.hosts]
-        assert all(view == views[0] for view in views)
+        digests = {host.digest("1/1") for host in self.hosts}
+        assert all(view == views[0] for view in views) and len(digests) == 1
         for host in self.hosts:
             host.end()
         return self.now, views[0]

@@ -291,6 +291,12 @@ export class Board {
     return { held: Number(head.split(' ', 1)[0]), hidden, shown: block.said('shown').map(placedOf) };
   }
 
+  /** The digest of what is held of a page, in hexadecimal.
+   * @param {string} page */
+  async digest(page) {
+    return (await this.tell(`digest ${pageWords(page)}`)).lines[0].slice('digest '.length);
+  }
+
   /** The first `most` of the pages that are drawn on: first those of ours, then those of members, and of each kind first those drawn on last.
    * @param {number} most */
   async pages(most) {

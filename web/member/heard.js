@@ -48,6 +48,12 @@ export class Heard {
     return this.members.has(wordOf(origin));
   }
 
+  /** Whether a number that has answered us speaks from there.
+   * @param {number} number @param {import('./origins.js').Origin} origin */
+  isOf(number, origin) {
+    return this.hasAnswered(number) && this.others.get(number)?.origin === wordOf(origin);
+  }
+
   /** Whether somebody was heard from there lately.
    * @param {import('./origins.js').Origin} origin */
   async knows(origin) {

@@ -3,12 +3,13 @@
 import { Alarms } from './alarms.js';
 import { Board, NoRoom } from './board.js';
 import { readDatagram } from './datagram.js';
+import { Digests } from './digests.js';
 import { Drawn } from './drawn.js';
 import { HostEnded } from './host.js';
 import { Judging } from './judging.js';
 import { wordOf } from './origins.js';
 import { People, Refused } from './people.js';
-import { Presence, isAside, readGone } from './presence.js';
+import { Presence, isAside, isDigest, readGone } from './presence.js';
 import { Telling } from './telling.js';
 import { Wire } from './wire.js';
 
@@ -58,6 +59,7 @@ export class Member {
     this.alarms = new Alarms();
     this.people = new People(this);
     this.presence = new Presence((news) => post('presence', news));
+    this.digests = new Digests(this);
     this.telling = new Telling(this, post);
     this.board = new Board(program, record, options.start, transport, (drawop) => this.hold(drawop));
     this.judging = /** @type {Judging} */ (/** @type {unknown} */ (null));
@@ -105,6 +107,7 @@ export class Member {
     }
     await this.passTime();
     await this.judging.heard.look();
+    await this.digests.turn();
     await this.telling.tell();
   }
 
@@ -145,7 +148,9 @@ export class Member {
   take(bytes, origin) {
     const gone = readGone(bytes);
     if (!isAside(bytes)) this.inbox.take(bytes, origin);
-    else if (gone === null) {
+    else if (isDigest(bytes)) {
+      if (this.judging?.heard.isMember(origin)) this.digests.hear(bytes, origin);
+    } else if (gone === null) {
       if (!this.isClosed || this.judging?.heard.isMember(origin)) this.presence.hear(bytes, this.me);
     } else {
       const left = this.transport.goneBy(gone, origin);
@@ -199,6 +204,7 @@ export class Member {
     this.wire.went(datagram);
     if (bytes.length <= MOST_BYTES) this.transport.send(bytes);
     else this.alarms.warn(`a datagram of over ${MOST_BYTES} bytes can't be sent`);
+    if (datagram?.kind === 'session-message') this.digests.reported.add(datagram.page);
     return datagram;
   }
 

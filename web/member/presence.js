@@ -3,6 +3,7 @@
  * (4 each); the column and the row (2 each), or 65535 and 65535 where it points nowhere; and then what is begun, as lines of ASCII such as
  * `line 0 0 4 4 *`. Numbers are unsigned, with the most significant byte first. The datagram that tells of a member that it is gone, which a
  * broker gives in its place, has "WG", the version and the zero, and then the name under which it spoke. */
+import { MARK as DIGESTS } from './digests.js';
 import { pageNumbers } from './views.js';
 
 /** @typedef {import('../../live/ui/types.js').Pointed} Pointed */
@@ -28,7 +29,11 @@ const markOf = (bytes) => decoder.decode(bytes.subarray(0, 2));
 
 /** Whether a datagram is for drivers alone.
  * @param {Uint8Array} bytes */
-export const isAside = (bytes) => [MARK, GONE].includes(markOf(bytes));
+export const isAside = (bytes) => [MARK, DIGESTS, GONE].includes(markOf(bytes));
+
+/** Whether it tells what somebody holds of a page.
+ * @param {Uint8Array} bytes */
+export const isDigest = (bytes) => markOf(bytes) === DIGESTS;
 
 /** The datagram that tells that who spoke under a name is gone.
  * @param {string} name */

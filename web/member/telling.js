@@ -206,10 +206,10 @@ export class Telling {
   }
 
   tellMembers() {
-    const { me, judging, board } = this.member, now = board.now(), isUnknown = (/** @type {import('./heard.js').Other} */ { answered }) => Number(answered === null);
+    const { me, page, judging, board, digests } = this.member, now = board.now(), isUnknown = (/** @type {import('./heard.js').Other} */ { answered }) => Number(answered === null);
     const first = judging.present().sort(([one, its], [other, others]) => isUnknown(its) - isUnknown(others) || one - other).slice(0, MOST_MEMBERS);
     const told = first.sort(([one], [other]) => one - other).map(([member, { at, delay }]) => (
-      { member, delay: delay === null ? null : delay / 1_000, heard: Math.round((now - at) / 100_000) / 10 }));
+      { member, delay: delay === null ? null : delay / 1_000, heard: Math.round((now - at) / 100_000) / 10, holds: digests.of(member, page) }));
     this.post('members', { me, members: told });
   }
 

@@ -3,7 +3,7 @@ use Rattle.std.specs.Prelude.{ℕ, Option, Some, None, if◌then◌else◌, nat_
 use Rattle.wb_display.specs.Canvas.{is_canvas_size}
 use Rattle.wb_names.specs.declared.name.PageId.{PageId}
 use Rattle.wb_member.specs.declared.questions.Query.{Query}
-use Rattle.wb_member.specs.declared.questions.Query.TheVariants.{Canvas, Gaps, Report, Pages, View, Known, Next}
+use Rattle.wb_member.specs.declared.questions.Query.TheVariants.{Canvas, Gaps, Report, Pages, View, Known, Next, Digest}
 
 -- of a canvas, its size is to be one
 abbrev pub canvas_query : PageId → ℕ → ℕ → Option Query
@@ -18,4 +18,5 @@ query_of question page width height =
     else (if nat_eq question 5 then Some Pages
     else (if nat_eq question 6 then Some Known
     else (if nat_eq question 7 then canvas_query page width height
-    else None))))))
+    else (if nat_eq question 8 then Some (Digest page)
+    else None)))))))

@@ -11,7 +11,7 @@ use Rattle.wb_member.specs.Questions.{Told}
 use Rattle.wb_member.specs.Questions as told
 use Rattle.wb_c.specs.JudgedEvents as judged
 use Rattle.wb_c.specs.declared.event.Event.{Event}
-use Rattle.wb_c.specs.declared.event.Event.TheVariants.{Judged, Sent, New, Again, Clash, Left, Shown, Missing, Greatest, Page, Next, Painted}
+use Rattle.wb_c.specs.declared.event.Event.TheVariants.{Judged, Sent, New, Again, Clash, Left, Shown, Missing, Greatest, Page, Next, Painted, Digest}
 
 -- ---- what became of a drawop
 
@@ -40,6 +40,7 @@ told_events (told.view drawops) = map Shown drawops
 told_events (told.known all) = map Page all
 told_events (told.next (Some number)) = Next number ∷ []
 told_events (told.next None) = []
+told_events (told.digest bytes) = Digest bytes ∷ []
 
 -- ---- the kind of an event, and its bytes
 
@@ -55,6 +56,7 @@ kind_of (Greatest mark) = 8
 kind_of (Page page) = 9
 kind_of (Next number) = 10
 kind_of (Painted text) = 11
+kind_of (Digest bytes) = 17
 kind_of (Judged event) = judged.kind_of event
 
 -- a range: its source, its first number and its last
@@ -74,4 +76,5 @@ bytes_of (Greatest mark) = mark_bytes mark
 bytes_of (Page page) = page_bytes page
 bytes_of (Next number) = to_be_bytes w32 number
 bytes_of (Painted text) = text
+bytes_of (Digest bytes) = bytes
 bytes_of (Judged event) = judged.bytes_of event

@@ -37,6 +37,8 @@ pub(crate) enum Event {
     Next(u32),
     /// A canvas.
     Painted(Canvas),
+    /// The digest of a page.
+    Digest([u8; 32]),
     /// What a judged member gives.
     Judged(JudgedEvent),
 }
@@ -89,6 +91,7 @@ impl Event {
             Event::Page(_) => 9,
             Event::Next(_) => 10,
             Event::Painted(_) => 11,
+            Event::Digest(_) => 17,
             Event::Judged(event) => judged_event::kind_of(event),
         }
     }
@@ -105,6 +108,7 @@ impl Event {
             Event::Page(page) => Vec::from_slice(alloc, &pair(page.creator, page.number)),
             Event::Next(number) => Vec::from_slice(alloc, &number.to_be_bytes()),
             Event::Painted(canvas) => Vec::from_slice(alloc, canvas.bytes()),
+            Event::Digest(digest) => Vec::from_slice(alloc, digest),
             Event::Judged(event) => judged_event::bytes_of(alloc, event),
             Event::New => Ok(Vec::new(alloc)),
             Event::Again => Ok(Vec::new(alloc)),

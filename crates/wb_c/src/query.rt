@@ -57,5 +57,8 @@ pub(crate) fn query_of(question: u32, page: PageId, width: u32, height: u32) -> 
     if question == 7 {
         return canvas(page, width, height);
     }
+    if question == 8 {
+        return Some(Query::Digest(page));
+    }
     None
 }

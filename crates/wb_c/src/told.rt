@@ -118,5 +118,6 @@ pub(crate) fn add_answer(events: &mut VecDeque<Event>, answer: Answer) -> Result
         Answer::Known(pages) => add_all(events, pages.as_slice()),
         Answer::Next(Some(number)) => add(events, Event::Next(number)),
         Answer::Next(None) => Ok(()),
+        Answer::Digest(digest) => add(events, Event::Digest(digest)),
     }
 }

@@ -2,6 +2,7 @@
 use Rattle.std.specs.Prelude.{ℕ, List, ◌++◌, length, Option, Some, codes, flat_map}
 use Rattle.std.specs.Fmt.{decimal}
 use Rattle.std.specs.Option.{option_map}
+use Rattle.hex.specs.Hex.{encode_lower}
 use Rattle.wb_names.specs.Values.{DrawopValue, MarkValue}
 use Rattle.wb_names.specs.declared.name.PageId.{PageId}
 use Rattle.wb_names.specs.declared.gap.Gap.{Gap}
@@ -56,6 +57,10 @@ view_text drawops = counted_list (codes "view ") drawop_line drawops
 abbrev pub next_line : ℕ → List ℕ
 next_line n = codes "next " ++ (decimal n ++ codes "\n")
 
+-- a digest in hexadecimal, with lower-case letters
+abbrev pub digest_line : List ℕ → List ℕ
+digest_line bytes = codes "digest " ++ (encode_lower bytes ++ codes "\n")
+
 -- What is printed for an answer. That no number is left has no text.
 abbrev pub answer_text : Told → Option (List ℕ)
 answer_text (told.canvas text) = Some text
@@ -65,3 +70,4 @@ answer_text (told.pages all) = Some (pages_text all)
 answer_text (told.view drawops) = Some (view_text drawops)
 answer_text (told.known all) = Some (known_pages_text all)
 answer_text (told.next number) = option_map next_line number
+answer_text (told.digest bytes) = Some (digest_line bytes)

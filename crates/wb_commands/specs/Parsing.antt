@@ -25,7 +25,7 @@ use Rattle.wb_member.specs.Calls.{IsWithin as IsCallWithin}
 use Rattle.wb_member.specs.declared.calls.Call.TheVariants.{Hear, SetDelay, Tune, Tick, Look, Session}
 use Rattle.wb_member.specs.Questions.{IsAnswerable}
 use Rattle.wb_member.specs.declared.questions.Query.{Query}
-use Rattle.wb_member.specs.declared.questions.Query.TheVariants.{Canvas, Gaps, Report, Pages}
+use Rattle.wb_member.specs.declared.questions.Query.TheVariants.{Canvas, Gaps, Report, Pages, Digest}
 use Rattle.wb_lines.specs.Words.{words, number_of, unhex}
 
 infixl 10 ◌>>=◌
@@ -121,7 +121,8 @@ script_question word arguments =
     else (if bytes_eq word (codes "gaps") then page arguments >>= (λ p. Ok (Gaps p))
     else (if bytes_eq word (codes "report") then page arguments >>= (λ p. Ok (Report p))
     else (if bytes_eq word (codes "pages") then pages arguments
-    else Err faults.Unknown)))
+    else (if bytes_eq word (codes "digest") then page arguments >>= (λ p. Ok (Digest p))
+    else Err faults.Unknown))))
 
 -- the datagram that bytes spell
 abbrev pub read_or_fault : Result Datagram ReadFault → Result Datagram LineFault

@@ -4,7 +4,7 @@ ghost use Rattle.std.specs.String.{string_bytes};
 ghost use Rattle.wb_names.specs.Arrivals.{counts, counts_of};
 ghost use Rattle.wb_member.specs.Holding.{outcome_in};
 ghost use Rattle.wb_member.specs.Questions.{told};
-ghost use Rattle.wb_commands.specs.Answers.{answer_text, batch_line, gaps_text, known_pages_text, next_line, pages_text, report_text, view_text, drawop_line};
+ghost use Rattle.wb_commands.specs.Answers.{answer_text, batch_line, digest_line, gaps_text, known_pages_text, next_line, pages_text, report_text, view_text, drawop_line};
 ghost use Rattle.wb_commands.specs.Doing.{PrintsAnswer};
 
 use crate::fault::{LineFault, Untaken};
@@ -100,6 +100,14 @@ fn next_line(alloc: Global, number: u32) -> Result<String, AllocError>
     format!(in alloc; "next {number}\n")
 }
 
+/// The digest of a page, in hexadecimal.
+fn digest_line(alloc: Global, bytes: [u8; 32]) -> Result<String, AllocError>
+    ensures { IfOk result (λ text. string_bytes text ≡ digest_line bytes) }
+{
+    let digits = hex::encode(alloc, bytes)?;
+    format!(in alloc; "digest {digits}\n")
+}
+
 /// Prints an answer. Refused with `TooMany`, if no number is left. Unless it is printed, nothing
 /// is.
 pub fn print(alloc: Global, answer: &Answer, output: &mut Output) -> Result<(), Untaken>
@@ -113,6 +121,7 @@ pub fn print(alloc: Global, answer: &Answer, output: &mut Output) -> Result<(), 
         Answer::View(drawops) => output.add(view_text(alloc, drawops)?.as_slice())?,
         Answer::Known(pages) => output.add(known_text(alloc, pages)?.as_bytes())?,
         Answer::Next(Some(number)) => output.add(next_line(alloc, *number)?.as_bytes())?,
+        Answer::Digest(bytes) => output.add(digest_line(alloc, *bytes)?.as_bytes())?,
         Answer::Next(None) => return Err(Untaken::Line(LineFault::TooMany)),
     }
     Ok(())

@@ -182,6 +182,8 @@ fn question(word: &[u8], rest: &[u8]) -> Result<Query, LineFault>
         Ok(Query::Report(page(rest)?))
     } else if word == b"pages".as_slice() {
         pages(rest)
+    } else if word == b"digest".as_slice() {
+        Ok(Query::Digest(page(rest)?))
     } else {
         Err(LineFault::Unknown)
     }

@@ -1,28 +1,24 @@
 -- Spellings one behind the other tell the drawops.
-use Rattle.std.proofs.Common.{◌≡◌, ℕ, ◌<◌, ◌≤◌, Bool, true, false, List, [], ◌∷◌, ◌++◌, length, take, refl, ap, sym, subst, ◌∙◌, arith, ⊎_elim, ◌⊎◌, inl, inr, Ok, Err, suc}
-use Rattle.std.specs.Prelude.{All, IsPermutation, ◌≢◌, nat_eq}
-use Rattle.std.specs.List.{flat_map}
+use Rattle.std.proofs.Common.{◌≡◌, ℕ, ◌<◌, ◌≤◌, Bool, true, false, List, [], ◌∷◌, ◌++◌, length, take, refl, ap, sym, subst, ◌∙◌, arith, ⊎_elim, ◌⊎◌, inl, inr, suc}
+use Rattle.std.specs.Prelude.{All, IsPermutation}
 use Rattle.std.proofs.Math.Seq.{take-append_seam}
 use Rattle.std.proofs.lemmas.Bool.{cases_lt}
-use Rattle.std.proofs.lemmas.List.{take-append-le, take_all, append_cancel_left, length-append}
+use Rattle.std.proofs.lemmas.List.{take-append-le, append_cancel_left}
 use Rattle.std.proofs.lemmas.List.Elements.{All-filter}
 use Rattle.std.proofs.lemmas.List.Sorted.{All-permutation, IsPermutation-trans, IsPermutation-sym}
 use Rattle.std.proofs.lemmas.Slice.Eq.{bytes_eq-Decides}
 use Rattle.std.specs.Prelude.{bytes_eq}
-use Rattle.sha2.specs.Sha256.{sha256}
 use Rattle.wb_names.specs.Values.{DrawopValue}
 use Rattle.wb_names.specs.Orders.{same_page}
 use Rattle.wb_names.specs.declared.name.PageId.{PageId}
 use Rattle.wb_codec.specs.declared.datagram.Datagram.{Datagram}
 use Rattle.wb_codec.specs.declared.datagram.Datagram.TheVariants.{Draw}
-use Rattle.wb_codec.specs.declared.fault.ReadFault.TheVariants.{Short}
 use Rattle.wb_codec.specs.Ranges.{IsDrawop, IsDatagram}
 use Rattle.wb_codec.specs.Spelling.{spelling}
 use Rattle.wb_codec.specs.Reading.{reading}
 use Rattle.wb_codec.specs.Laws.{ReadsSpellings, PrefixesAreShort, OneDatagram}
-use Rattle.wb_display.specs.Display.{IsView}
 use Rattle.wb_display.specs.Laws.{on_page, StandsAlone, Converges}
-use Rattle.wb_digest.specs.Digest.{ArePageInOrder, IsDigest, hashed_text}
+use Rattle.wb_digest.specs.Digest.{ArePageInOrder, hashed_text}
 use Rattle.wb_digest.specs.Laws.{HoldOnePage, Collision, TellPages}
 
 module _ (reads : ReadsSpellings) (short : PrefixesAreShort) where

@@ -10,6 +10,7 @@ use Rattle.wb_names.specs.declared.name.PageId.{PageId}
 use Rattle.wb_codec.specs.Spelling.{spelling}
 use Rattle.wb_codec.specs.declared.datagram.Datagram.TheVariants.{Draw}
 use Rattle.wb_display.specs.Laws.{on_page}
+use Rattle.wb_gaps.specs.Sorting.{sorted}
 
 -- by source, then by number, on one page
 abbrev pub name_order : DrawopValue → DrawopValue → Ordering
@@ -29,3 +30,7 @@ pub record IsDigest (history : List DrawopValue) (page : PageId) (digest : List 
   pub drawops : List DrawopValue
   pub in_order : ArePageInOrder history page drawops
   pub is : digest ≡ sha256 (hashed_text drawops)
+
+-- it as a function of what is held, where no name stands twice
+unfoldable pub digest_of : List DrawopValue → PageId → List ℕ
+digest_of history page = sha256 (hashed_text (sorted name_order (on_page page history)))

@@ -6,7 +6,7 @@ use Rattle.wb_names.specs.History.{IsHistory}
 use Rattle.wb_names.specs.declared.name.PageId.{PageId}
 use Rattle.wb_display.specs.Display.{IsView}
 use Rattle.wb_display.specs.Laws.{on_page}
-use Rattle.wb_digest.specs.Digest.{IsDigest}
+use Rattle.wb_digest.specs.Digest.{IsDigest, digest_of}
 
 -- the same drawops of a page, and so the same view of it
 pub record HoldOnePage (one other : List DrawopValue) (page : PageId) : Type 0 where
@@ -31,3 +31,11 @@ HoldsPageOf page one other = (d : DrawopValue) → d.name.page ≡ page → Cont
 -- boards that hold the same drawops of a page have one digest of it
 abbrev pub DigestsAgree : Type 0
 DigestsAgree = (one other : List DrawopValue) (page : PageId) (digest again : List ℕ) → IsHistory one → IsHistory other → HoldsPageOf page one other → HoldsPageOf page other one → IsDigest one page digest → IsDigest other page again → digest ≡ again
+
+-- the function gives the digest of a page, and there is no other
+pub record OneDigest (history : List DrawopValue) (page : PageId) : Type 0 where
+  pub is : IsDigest history page (digest_of history page)
+  pub only : (digest : List ℕ) → IsDigest history page digest → digest ≡ digest_of history page
+
+abbrev pub DigestsAreOne : Type 0
+DigestsAreOne = (history : List DrawopValue) (page : PageId) → IsHistory history → OneDigest history page

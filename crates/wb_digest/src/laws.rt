@@ -3,7 +3,7 @@
 
 ghost use Rattle.std.specs.Prelude.{All};
 ghost use Rattle.wb_codec.specs.Ranges.{IsDrawop};
-ghost use Rattle.wb_digest.specs.Laws.{DigestsAgree, TellPages};
+ghost use Rattle.wb_digest.specs.Laws.{DigestsAgree, DigestsAreOne, TellPages};
 
 use wb_codec::Datagram;
 use wb_codec::laws::{
@@ -36,4 +36,9 @@ pub fn equal_digests_tell(one: &[Drawop], other: &[Drawop])
 /// Lists that hold the same drawops of a page, in any order, and no name twice, have one digest of it.
 pub fn digests_agree()
     ensures { DigestsAgree }
+{}
+
+/// A page of a list that holds no name twice has one digest, which is a function of what is held.
+pub fn digests_are_one()
+    ensures { DigestsAreOne }
 {}

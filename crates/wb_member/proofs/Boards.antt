@@ -11,6 +11,8 @@ use Rattle.wb_gaps.specs.Pages.{ArePages}
 use Rattle.wb_gaps.proofs.MissingRanges.{only_gaps}
 use Rattle.wb_gaps.proofs.PageAnswers.{only_report, only_pages}
 use Rattle.wb_board.specs.Board.{IsAnswer, AskView, Shown}
+use Rattle.wb_digest.specs.Digest.{IsDigest, digest_of}
+use Rattle.wb_digest.proofs.Ordered.{digests_are_one}
 use Rattle.wb_keeper.proofs.KeeperAnswers.{few_seen}
 use Rattle.wb_member.specs.Board.{Held, held_of, OwnsAll}
 use Rattle.wb_member.specs.Queries.{view_of}
@@ -31,6 +33,9 @@ report_here p h page marks view sound is = only_report p.seen page marks (few_se
 
 pub pages_here : (p : PassValue) (h : Held) (pages : List PageId) → held_of p ≡ h → ArePages p.seen pages → pages ≡ pages_of h.drawops
 pages_here p h pages view are = only_pages p.seen pages are ∙ ap (λ (k : Held). pages_of k.drawops) view
+
+pub digest_here : (p : PassValue) (h : Held) (page : PageId) (digest : List ℕ) → held_of p ≡ h → IsSound p → IsDigest p.seen page digest → digest ≡ digest_of h.drawops page
+digest_here p h page digest view sound is = (digests_are_one p.seen page sound.history).only digest is ∙ ap (λ (k : Held). digest_of k.drawops page) view
 
 -- a call that read on, or was refused before
 pub same_still : (b : HistoryValue) (p q : PassValue) → OwnsAll b p → (q ≡ p) ⊎ ReadsOn p q → held_of q ≡ held_of p

@@ -7,6 +7,7 @@ ghost use Rattle.wb_member.specs.Questions.{IsAnswerable, answer_to, told};
 
 use crate::member::Member;
 use std::alloc::{AllocError, Global};
+use wb_digest::page_digest;
 use wb_display::{Canvas, CanvasFault};
 use wb_names::{Drawop, Gap, Marks, PageId};
 
@@ -31,6 +32,8 @@ pub enum Query {
     Known,
     /// The number of its next drawop on a page. None if no number is left.
     Next(PageId),
+    /// The digest of what is held of a page.
+    Digest(PageId),
 }
 
 /// What a member answers, each to the question of this name.
@@ -43,6 +46,7 @@ pub enum Answer {
     View(Vec<Drawop>),
     Known(Vec<PageId>),
     Next(Option<u32>),
+    Digest([u8; 32]),
 }
 
 impl Member {
@@ -87,6 +91,10 @@ impl Member {
                 Ok(Answer::Known(pages))
             }
             Query::Next(page) => Ok(Answer::Next(self.next_number(page))),
+            Query::Digest(page) => {
+                let digest = page_digest(alloc, self.desk.list(), page)?;
+                Ok(Answer::Digest(digest))
+            }
         }
     }
 }

@@ -13,6 +13,8 @@ use Rattle.wb_names.proofs.Listings.{Contains-filter, Contains-from_filter, Any-
 use Rattle.wb_names.proofs.Orders.{nat_ties, page_total}
 use Rattle.wb_codec.specs.declared.datagram.Datagram.{Datagram}
 use Rattle.wb_codec.specs.declared.datagram.Datagram.TheVariants.{Draw, Request}
+use Rattle.wb_digest.specs.Digest.{digest_of}
+use Rattle.wb_digest.proofs.Ordered.{digests_agree, digests_are_one}
 use Rattle.wb_display.proofs.Convergence.{converges}
 use Rattle.wb_gaps.specs.Answers.{sources_of, top_mark, gaps_of, report_of, pages_of, reports_of}
 use Rattle.wb_gaps.specs.declared.page_reports.PageReport.{PageReport}
@@ -135,6 +137,9 @@ module _ (one other : List DrawopValue) (a : AreAlike one other) where
   same_view : (page : PageId) → view_of one page ≡ view_of other page
   same_view page = converges one other page (view_of one page) (view_of other page) a.moved (view_of_page one page a.once) (view_of_page other page a.again)
 
+  same_digest : (page : PageId) → digest_of one page ≡ digest_of other page
+  same_digest page = digests_agree one other page (digest_of one page) (digest_of other page) a.once a.again (λ d on c. Contains-permutation other one d back c) (λ d on c. Contains-permutation one other d a.moved c) (digests_are_one one page a.once).is (digests_are_one other page a.again).is
+
   same_known : (heard : List PageId) → sorted page_cmp (map page_of one ++ heard) ≡ sorted page_cmp (map page_of other ++ heard)
   same_known heard =
       same_ascending page_total one_page (map page_of one ++ heard) (map page_of other ++ heard)
@@ -142,7 +147,7 @@ module _ (one other : List DrawopValue) (a : AreAlike one other) where
       (among_both (map page_of other) (map page_of one) heard heard (mapped_among other one back) (λ page c. c))
 
   -- what is read off a history for an answer
-  ruleset same_readings = (same_view, same_gaps, same_report, same_pages, same_known, same_highest)
+  ruleset same_readings = (same_view, same_gaps, same_report, same_pages, same_known, same_highest, same_digest)
 
   pub same_answer : (number : ℕ) (marks : PageId → List MarkValue) (heard : List PageId) (query : Query) → answer_by number marks heard one query ≡ answer_by number marks heard other query
   same_answer number marks heard Pages = simp same_readings

@@ -1,4 +1,3 @@
-use Rattle.std.proofs.lemmas.Grind.{common_steps}
 use Rattle.std.proofs.Common.{◌≡◌, ℕ, List, ◌++◌, ◌∷◌, [], ap, sym, ◌∙◌, subst, arith, take, rules, ◌+◌}
 use Rattle.std.proofs.lemmas.List.{flat_map_more, take_more}
 use Rattle.sha2.specs.Hashers.{Holds256}

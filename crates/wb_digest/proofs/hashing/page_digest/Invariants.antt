@@ -1,4 +1,4 @@
-use Rattle.std.proofs.Common.{◌≡◌, take}
+use Rattle.std.proofs.Common.{take}
 use Rattle.sha2.specs.Hashers.{Holds256}
 use Rattle.wb_digest.specs.Digest.{hashed_text}
 use Rattle.wb_digest.proofs.hashing.page_digest.Given as goal

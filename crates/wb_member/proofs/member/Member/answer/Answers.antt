@@ -1,10 +1,11 @@
 use Rattle.std.proofs.Common.{◌∙◌, ap, sym, subst, List}
 use Rattle.wb_names.specs.Values.{DrawopValue}
+use Rattle.wb_digest.specs.Digest.{IsDigest}
 use Rattle.wb_display.specs.Canvas.{canvas_text}
 use Rattle.wb_member.specs.Holding.{MemberValue, IsOpenAt}
 use Rattle.wb_member.specs.Opened.{board_of}
-use Rattle.wb_member.specs.Questions.{canvas, gaps, report, pages, view}
-use Rattle.wb_member.proofs.Boards.{view_here, gaps_here, report_here, pages_here}
+use Rattle.wb_member.specs.Questions.{canvas, gaps, report, pages, view, digest}
+use Rattle.wb_member.proofs.Boards.{view_here, gaps_here, report_here, pages_here, digest_here}
 use Rattle.wb_member.proofs.member.Member.answer.Goals as goal
 
 pub returns-in_ok-canvas-in-Canvas-clause-answer : goal.returns-in_ok-canvas-in-Canvas-clause-answer
@@ -39,3 +40,9 @@ returns-in_ok-view-in-View-clause-answer c = λ host at.
     let v = c.self.inside in
     let there = subst (λ (s : MemberValue). IsOpenAt s host) (sym c.self.view_is) at in
     rw c.in-View.is (ap view (view_here v.board v.desk c.view.new.desk (board_of host) c.in-View.page _ there.board c.self.invariant c.view.ensures.desk c.in_ok-view-in-View.ensures.answer))
+
+pub returns-in_ok-digest-in-Digest-clause-answer : goal.returns-in_ok-digest-in-Digest-clause-answer
+returns-in_ok-digest-in-Digest-clause-answer c = λ host at.
+    let v = c.self.inside in
+    let there = subst (λ (s : MemberValue). IsOpenAt s host) (sym c.self.view_is) at in
+    rw c.in-Digest.is (ap digest (digest_here v.desk (board_of host) c.in-Digest.page _ there.board c.self.invariant.sound (subst (λ (ds : List DrawopValue). IsDigest ds c.in-Digest.page c.in_ok-digest-in-Digest.digest) c.list.ensures.value c.in_ok-digest-in-Digest.ensures)))
