@@ -88,13 +88,11 @@ def twins() -> List[Dict[str, Any]]:
              came(257 * S + 1, "x", "session-message 1 78 1/1 1@%d+%d" % (S, 256 * S + 2), "dropped own")),
         case("a liar stops nobody by drawops",
              met(66, "eve"),
-             came(S, "eve", line(1, 2), "in", top=1), came(S, "x", line(1, 12), "dropped own", top=2),
-             came(S, "eve", line(1, 70_000), "dropped own", top=2), came(S, "eve", line(1, 2**31), "dropped own", top=2),
-             came(S, "eve", line(1, 2**32 - 1), "dropped own", top=2), ask(S, "ok", add="drawing")),
-        case("what a crash lost of ours comes back",
-             came(S, "x", line(1, 3), "in", listens=True, top=2), came(S, "x", line(1, 65_538), "in", listens=True, top=2),
-             came(S, "x", line(1, 65_539), "dropped own", listens=True, top=2), came(9 * S, "x", line(1, 4), "dropped own", top=3),
-             met(now=10 * S), came(11 * S, "b", line(1, 4), "in", top=3)),
+             came(S, "eve", line(1, 2), "dropped own", above=True), came(S, "x", line(1, 12), "dropped own", above=True),
+             came(S, "eve", line(1, 2**31), "dropped own"), came(S, "eve", line(1, 2**32 - 1), "dropped own", above=True), ask(S, "ok", add="drawing")),
+        case("what a crash lost of ours comes back of a member, once we listen no more",
+             came(S, "x", report(2, "1=65538"), "in", listens=True, top=2), met(now=S), came(S, "b", line(1, 3), "dropped own", listens=True),
+             came(9 * S, "x", line(1, 3), "dropped own"), came(9 * S, "b", line(1, 3), "in"), came(9 * S, "b", line(1, 65_539), "dropped own", above=True)),
     ]
 
 

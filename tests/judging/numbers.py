@@ -129,9 +129,8 @@ def drawops() -> List[Dict[str, Any]]:
         case("the time of day goes on, and can be set",
              ask(5 * S, WALL + 5 * S, time=True), {"now": 6 * S, "wall": WALL - DAY}, ask(8 * S, WALL - DAY + 2 * S, time=True),
              came(8 * S, "x", line(2), "dropped ahead")),
-        case("a drawop of ours that only we draw", met(), came(S, "b", line(1, 1), "in"), came(S, "b", line(1, 65_536), "in"),
-             came(S, "b", line(1, 65_537), "dropped own"), came(S, "b", line(1, 2**31 - 1), "in", top=2**31 - 2),
-             came(S, "b", line(1, 2**31), "dropped own", top=2**31 - 1)),
+        case("a drawop of ours that only we draw", met(), came(S, "b", line(1, 1), "in"), came(S, "b", line(1, 2), "dropped own", above=True),
+             came(S, "b", line(1, 2**31 - 1), "in"), came(S, "b", line(1, 2**31), "dropped own")),
     ]
 
 

@@ -44,7 +44,7 @@ FIRM_TIME, MOST_SHARING = 2 * SECOND, 31
 # A member that lacks LACKING numbers takes a stream, unless one began lately, or one of that member.
 LACKING, FETCH_PAUSE, FETCH_AGAIN = 500, 10 * SECOND, 60 * SECOND
 
-# A number of ours that is so far above what we hold is forged, and so is any from here on.
+# A mark of ours that is so far above what we hold is forged, and so is any number from here on.
 FORGED_ABOVE, FORGED_NUMBER = 65_536, 2**31
 
 # how far ahead of our time of day the time of a drawop may be
@@ -88,7 +88,8 @@ class Facts:
     held: int = 0  # drawops on all pages
     listens: bool = False
     holds: bool = False  # the drawop, or what the request asks for
-    top: int = 0  # the greatest number of ours that is held on the page of a report or a drawop
+    above: bool = False  # the number of a drawop is above all of ours on its page that are held or were heard of
+    top: int = 0  # the greatest number of ours that is held on the page of a report
     lacking: int = 0  # numbers up to the marks of a report that are not held
 
 
@@ -325,11 +326,11 @@ class Judge:
         return Verdict()
 
     def is_forged_drawop(self, is_known: bool, datagram: Datagram, facts: Facts) -> bool:
-        """Whether a drawop is not ours that has our number. One that we drew and a crash lost is: our numbers go on above it."""
+        """Whether a drawop that has our number is not ours, or raises our numbers, which marks alone do, while we listen. Then none of ours is
+        taken, so that all marks are measured by what our record has; later members give what it has lost."""
         if datagram.speaker != self.me or datagram.name is None:
             return False
-        number = datagram.name.number
-        return number >= FORGED_NUMBER or number > facts.top + FORGED_ABOVE or not (facts.listens or is_known)
+        return datagram.name.number >= FORGED_NUMBER or facts.above or facts.listens or not is_known
 
     # ---- what is sent
 

@@ -68,9 +68,9 @@ RULES = [
     Rule("new numbers are few", "if not has_room and not (self.answering if is_answer else self.new).takes(facts.now)", "if not has_room and is_answer and not self.answering.takes(facts.now)", "crowds"),
     Rule("who answers finds room beside them", "(self.answering if is_answer else self.new)", "self.new", "who answers finds room"),
     # drawops under our own number
-    Rule("a drawop of ours that nobody drew is none", "return number >= FORGED_NUMBER or number > facts.top + FORGED_ABOVE or not (facts.listens or is_known)", "return False", "a liar stops nobody by drawops"),
-    Rule("what a crash lost comes back of a member", "or not (facts.listens or is_known)", "or not facts.listens", "what a crash lost of ours comes back"),
-    Rule("and of anybody while we listen", "or not (facts.listens or is_known)", "or not is_known", "what a crash lost of ours comes back"),
+    Rule("a drawop raises no number of ours", "or facts.above or", "or", "a liar stops nobody by drawops"),
+    Rule("what a crash lost comes back of a member", "or facts.listens or not is_known", "or facts.listens or is_known", "what a crash lost of ours comes back of a member, once we listen no more"),
+    Rule("but of nobody while we listen", "or facts.listens or not is_known", "or not is_known", "what a crash lost of ours comes back of a member, once we listen no more"),
     # names that a network keeps
     Rule("a number is its owner's", "return owner is not None and owner != origin.owner", "return False", "names at a broker"),
     Rule("ours is ours", "owner = self.here if number == self.me else", "owner = None if number == self.me else", "names at a broker"),

@@ -35,9 +35,9 @@ draws (Drawn figure stroke) = true
 draws (Text x y text) = true
 draws (Aimed change target) = false
 
--- A drawop with our number is forged, unless we may have drawn it before a crash: our numbers go on above it.
+-- A drawop with our number is forged, unless a member gives what we lost: marks alone raise our numbers, and no drawop of ours is taken while they may.
 unfoldable pub is_forged_drawop : Bool → DrawopValue → Facts → Judge → Bool
-is_forged_drawop known d f j = nat_eq d.name.source j.me && (nat_le FIRST_FORGED d.name.seq || (nat_lt (f.top + FORGED_ABOVE) d.name.seq || not (f.listens || known)))
+is_forged_drawop known d f j = nat_eq d.name.source j.me && (nat_le FIRST_FORGED d.name.seq || (f.above || (f.listens || not known)))
 
 abbrev pub ahead_of : Bool → ℕ
 ahead_of known = if known then AHEAD_KNOWN else AHEAD_STRANGER

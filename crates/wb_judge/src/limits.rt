@@ -80,8 +80,8 @@ pub const FETCH_PAUSE: u64 = 10_000_000;
 /// And none of the same member for this long.
 pub const FETCH_AGAIN: u64 = 60_000_000;
 
-/// A number of ours that is further above what we hold is forged, since nobody draws as many on a
-/// page.
+/// A mark of ours that is further above what we hold is forged, since nobody draws as many on a
+/// page. While we listen we take no drawop of ours, so a start raises no number by more.
 pub const FORGED_ABOVE: u64 = 65_536;
 
 /// How far ahead of the time of day that of a drawop from a known origin may be.

@@ -6,7 +6,7 @@ ghost use Rattle.wb_judge.specs.Judging.{ahead_of, draws, drawop_verdict, is_ahe
 
 use super::Judge;
 use crate::facts::Facts;
-use crate::limits::{AHEAD_KNOWN, AHEAD_STRANGER, FORGED_ABOVE};
+use crate::limits::{AHEAD_KNOWN, AHEAD_STRANGER};
 use crate::origin::Origin;
 use crate::verdict::{Verdict, Warning, Why};
 use wb_names::{Drawop, FIRST_FORGED, Op};
@@ -51,15 +51,15 @@ impl Judge {
         Verdict::TAKEN
     }
 
-    /// Whether a drawop that has our number is not ours.
+    /// Whether a drawop that has our number is not ours, or raises our numbers. While we listen none
+    /// is taken, and then those of members that we have lost.
     #[tactic(auto, unfolding(crate::specs::Judging::is_forged_drawop))]
     fn is_forged_drawop(&self, known: bool, drawop: &Drawop, facts: &Facts) -> bool
         ensures { result ≡ is_forged_drawop known drawop.now facts.now self.now }
     {
         let name = drawop.name();
-        let top = facts.top as u64 + FORGED_ABOVE;
         name.source() == self.me
-            && (FIRST_FORGED <= name.seq() || top < name.seq() as u64 || !(facts.listens || known))
+            && (FIRST_FORGED <= name.seq() || facts.above || facts.listens || !known)
     }
 
     /// Whether a time is too far ahead of the time of day.
