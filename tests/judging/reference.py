@@ -191,12 +191,15 @@ class Judge:
         other = self.others.get(number)
         return other is not None and other.origin != origin and other.answered is not None and now - other.at <= PATIENCE
 
+    def owner_of(self, number: int) -> Optional[str]:
+        """Who answered under a number owns it; who only claims it does not. Ours is ours."""
+        other = self.others.get(number)
+        return self.here if number == self.me else other.origin.owner if other is not None and other.answered is not None else None
+
     def is_forged(self, number: int, origin: Origin) -> bool:
-        """Whether a number is another owner's: it is theirs who spoke under it first, and ours is ours."""
-        if origin.owner is None:
-            return False
-        owner = self.here if number == self.me else self.others[number].origin.owner if number in self.others else None
-        return owner is not None and owner != origin.owner
+        """Whether a number is another owner's."""
+        owner = self.owner_of(number)
+        return None not in (owner, origin.owner) and owner != origin.owner
 
     def is_firm(self, name: Name, now: int) -> bool:
         """Whether nothing that others send of a name hushes us. Each has its turns; beside one other member all turns are its."""
@@ -313,8 +316,8 @@ class Judge:
             return Verdict("again" if datagram.name is None or not self.hushes(origin, datagram.name, facts.now) else None)
         if self.is_forged_drawop(is_known, datagram, facts):
             return Verdict("own")
-        if not is_known and self.is_bound_elsewhere(datagram.speaker, origin, facts.now):
-            return Verdict("speaks")
+        if not is_known and origin.owner is None and self.is_bound_elsewhere(datagram.speaker, origin, facts.now):
+            return Verdict("speaks")  # where origins have owners it is a repair, as anybody may give one
         if datagram.time > self.time_of_day(facts.now) + (AHEAD_KNOWN if is_known else AHEAD_STRANGER):
             return Verdict("ahead")
         if self.is_full(facts.held) and (datagram.is_drawing or not is_known):

@@ -30,7 +30,7 @@ RULES = [
     Rule("a member's is a day ahead at most", "datagram.time > self.time_of_day(facts.now) +", "not is_known and datagram.time > self.time_of_day(facts.now) +", "a late clock sees what members draw"),
     Rule("no drawop sets the time of day", "    def judge_drawop(self, origin: Origin, datagram: Datagram, facts: Facts) -> Verdict:\n",
          "    def judge_drawop(self, origin: Origin, datagram: Datagram, facts: Facts) -> Verdict:\n        self.tell_time(facts.now, max(datagram.time, self.time_of_day(facts.now)))\n", "time is moved by nobody"),
-    Rule("a stranger draws under no member's number", "if not is_known and self.is_bound_elsewhere(", "if False and self.is_bound_elsewhere(", "time is moved by nobody"),
+    Rule("a stranger draws under no member's number", "origin.owner is None and self.is_bound_elsewhere(", "False and self.is_bound_elsewhere(", "time is moved by nobody"),
     # streams are for members alone
     Rule("no stream is taken of who has not answered", "if other.answered is None or facts.lacking", "if facts.lacking", "a stream is taken of members alone"),
     Rule("nor from where a forged report came", "if not is_answer and self.is_bound_elsewhere(", "if False and self.is_bound_elsewhere(", "a stream is taken of members alone"),
@@ -72,8 +72,10 @@ RULES = [
     Rule("what a crash lost comes back of a member", "or facts.listens or not is_known", "or facts.listens or is_known", "what a crash lost of ours comes back of a member, once we listen no more"),
     Rule("but of nobody while we listen", "or facts.listens or not is_known", "or not is_known", "what a crash lost of ours comes back of a member, once we listen no more"),
     # names that a network keeps
-    Rule("a number is its owner's", "return owner is not None and owner != origin.owner", "return False", "names at a broker"),
-    Rule("ours is ours", "owner = self.here if number == self.me else", "owner = None if number == self.me else", "names at a broker"),
+    Rule("a number is its owner's", "return None not in (owner, origin.owner) and owner != origin.owner", "return False", "names at a broker"),
+    Rule("ours is ours", "return self.here if number == self.me else", "return None if number == self.me else", "names at a broker"),
+    Rule("who claims a number does not own it", "if other is not None and other.answered is not None else None", "if other is not None else None", "whoever claims a number at a broker keeps it from nobody"),
+    Rule("and drawops are repairs there", "not is_known and origin.owner is None and self", "not is_known and self", "no drawing is dropped at a broker since another owner answered under its number"),
     Rule("who has gone leaves its numbers", "for number, other in self.others.items() if other.origin != origin}", "for number, other in self.others.items()}", "a name that has gone leaves its numbers"),
 ]
 

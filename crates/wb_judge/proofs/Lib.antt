@@ -18,3 +18,4 @@ pub mod MembersHeard
 pub mod MembersStay
 pub mod NumbersBeside
 pub mod Room
+pub mod Owners

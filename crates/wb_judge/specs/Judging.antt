@@ -1,5 +1,5 @@
 -- What becomes of a datagram, and of the judge.
-use Rattle.std.specs.Prelude.{ℕ, ◌+◌, ◌-◌, Bool, true, false, not, ◌&&◌, ◌||◌, [], Option, Some, None, is_some, nat_eq, nat_le, nat_lt, if◌then◌else◌}
+use Rattle.std.specs.Prelude.{ℕ, ◌+◌, ◌-◌, Bool, true, false, not, ◌&&◌, ◌||◌, [], Option, Some, None, is_none, is_some, nat_eq, nat_le, nat_lt, if◌then◌else◌}
 use Rattle.std.specs.List.{list_any}
 use Rattle.wb_names.specs.Values.{DrawopValue, NameValue}
 use Rattle.wb_names.specs.declared.name.TheConstants.{FIRST_FORGED}
@@ -45,11 +45,15 @@ ahead_of known = if known then AHEAD_KNOWN else AHEAD_STRANGER
 unfoldable pub is_ahead : Bool → ℕ → ℕ → Judge → Bool
 is_ahead known time now j = nat_lt (time_of_day j.clock now + ahead_of known) time
 
+-- A stranger's drawop is under the number of a member elsewhere. Where origins have owners that is a repair, as anybody may give one.
+abbrev pub is_claimed : Origin → ℕ → ℕ → Judge → Bool
+is_claimed o number now j = is_none o.owner && is_bound_elsewhere number o now j.others
+
 unfoldable pub drawop_verdict : Origin → DrawopValue → Facts → Judge → Verdict
 drawop_verdict o d f j = let known = knows o f.at j in
     if f.holds then (if hushes o d.name f.at j then taken else dropped Again)
     else if is_forged_drawop known d f j then dropped Own
-    else if not known && is_bound_elsewhere d.name.source o f.at j.others then dropped Speaks
+    else if not known && is_claimed o d.name.source f.at j then dropped Speaks
     else if is_ahead known d.time f.at j then dropped Ahead
     else if is_full f.held j && (draws d.op || not known) then warned Full NoCell
     else if not known && is_over o j.strange then (if nat_lt 0 j.strange.most then warned Share NoShare else dropped Share)

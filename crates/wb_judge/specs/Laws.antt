@@ -1,5 +1,5 @@
 -- What follows of the judgement, whatever comes in.
-use Rattle.std.specs.Prelude.{◌≡◌, ◌⊎◌, ℕ, ◌+◌, ◌-◌, ◌*◌, ◌≤◌, ◌<◌, Bool, true, false, not, ◌&&◌, List, [], ◌∷◌, ◌++◌, Option, Some, None, AllPairs, filter, is_none, is_some, length, if◌then◌else◌}
+use Rattle.std.specs.Prelude.{◌≡◌, ◌⊎◌, ℕ, ◌+◌, ◌-◌, ◌*◌, ◌≤◌, ◌<◌, Bool, true, false, not, ◌&&◌, List, [], ◌∷◌, ◌++◌, Option, Some, None, AllPairs, filter, is_none, is_some, length, nat_eq, if◌then◌else◌}
 use Rattle.wb_names.specs.Orders.{same_name}
 use Rattle.wb_names.specs.Values.{DrawopValue, NameValue}
 use Rattle.wb_names.specs.declared.echo.Echo.{Echo}
@@ -9,16 +9,17 @@ use Rattle.wb_judge.specs.Answers.{answers, reported}
 use Rattle.wb_judge.specs.Buckets.{has_room, paid_after}
 use Rattle.wb_judge.specs.Days.{DayClock, time_of_day}
 use Rattle.wb_judge.specs.Firm.{is_firm_beside, turn_at, turns}
-use Rattle.wb_judge.specs.Judge.{Judge, after_leaving, after_taking, is_firm, is_full, knows}
+use Rattle.wb_judge.specs.Judge.{Judge, after_leaving, after_taking, is_another, is_firm, is_forged, is_full, knows, owner_in}
 use Rattle.wb_judge.specs.Judging.{after_judging, draws, verdict}
-use Rattle.wb_judge.specs.Others.{is_bound_elsewhere}
+use Rattle.wb_judge.specs.Others.{is_bound_elsewhere, other_of}
 use Rattle.wb_judge.specs.Reports.{echo_to}
 use Rattle.wb_judge.specs.Strange.{has_name, is_given_by, is_there, with_given}
 use Rattle.wb_judge.specs.declared.facts.Facts.{Facts}
 use Rattle.wb_judge.specs.declared.limits.TheConstants.{AHEAD_KNOWN, ASKED_AHEAD, ASKED_PAUSE, MOST_KNOWN, MOST_OTHERS, MOST_OWN, REPAIRS_AHEAD, REPAIRS_OF_ONE, REPAIR_PAUSE}
 use Rattle.wb_judge.specs.declared.origin.Origin.{Origin}
+use Rattle.wb_judge.specs.declared.others.Other.{Other}
 use Rattle.wb_judge.specs.declared.strange.Given.{Given}
-use Rattle.wb_judge.specs.declared.verdict.Why.TheVariants.{Again}
+use Rattle.wb_judge.specs.declared.verdict.Why.TheVariants.{Again, Speaks}
 
 -- ---- members
 
@@ -51,6 +52,23 @@ speaker_in v = None
 abbrev pub NumbersStay : Type 0
 NumbersStay = (o : Origin) (number : ℕ) (v : Datagram) (f : Facts) (j : Judge) → speaker_in v ≡ Some number
     → is_bound_elsewhere number o f.at j.others ≡ true → is_answer v f.at j ≡ false → (after_judging o v f j).others ≡ j.others
+
+-- who says by its own word that it speaks
+abbrev pub said_by : Datagram → Option ℕ
+said_by (Draw d) = None
+said_by (Session s sent page marks echoes) = Some s
+said_by (Request asker name) = Some asker
+said_by (AskPages asker) = Some asker
+said_by (PageState s page marks) = Some s
+
+-- Whoever answers keeps its number: what another owner says under it is dropped, also an answer, and moves no number.
+abbrev pub OwnersStay : Type 0
+OwnersStay = (o : Origin) (number : ℕ) (v : Datagram) (f : Facts) (j : Judge) → said_by v ≡ Some number → nat_eq number j.me ≡ false
+    → is_another o.owner (owner_in (other_of number j.others)) ≡ true → ((verdict o v f j).why ≡ Some Speaks) × ((after_judging o v f j).others ≡ j.others)
+
+-- And a number is nobody's that was only claimed: whoever owns it may answer.
+abbrev pub ClaimsBindNobody : Type 0
+ClaimsBindNobody = (o : Origin) (number : ℕ) (x : Other) (j : Judge) → nat_eq number j.me ≡ false → other_of number j.others ≡ Some x → is_none x.answered ≡ true → is_forged number o j ≡ false
 
 -- A datagram that answers nobody, as a replay, shows no twin.
 abbrev pub ReplayIsNoTwin : Type 0

@@ -5,7 +5,7 @@ ghost use Rattle.wb_names.specs.Moments.{IsMoment};
 ghost use Rattle.wb_judge.specs.Adding.{adding_fault, own_echo};
 ghost use Rattle.wb_judge.specs.Answers.{reported};
 ghost use Rattle.wb_judge.specs.Days.{time_of_day};
-ghost use Rattle.wb_judge.specs.Judge.{after_leaving, after_taking, is_another, is_forged, is_full, knows, opened, owner_of};
+ghost use Rattle.wb_judge.specs.Judge.{after_leaving, after_taking, is_another, is_forged, is_full, knows, opened, owner_in, owner_of};
 ghost use Rattle.wb_judge.specs.Pages.{rank_of};
 ghost use Rattle.wb_judge.specs.Strange.{with_given, without_name};
 ghost use Rattle.wb_judge.specs.declared.limits.TheConstants.{TIME_LIMIT};
@@ -15,7 +15,7 @@ use crate::day_clock::DayClock;
 use crate::known::Known;
 use crate::limits::{FRESH, RESERVE};
 use crate::origin::Origin;
-use crate::others::Others;
+use crate::others::{Other, Others};
 use crate::own_reports::OwnReports;
 use crate::pages::{Rank, rank_of};
 use crate::strange::{Given, Strange};
@@ -238,7 +238,7 @@ impl Judge {
         is_another(origin.owner, self.owner_of(number))
     }
 
-    /// Who owns a number, if somebody does.
+    /// Who owns a number, if somebody does: of another, who has answered under it.
     fn owner_of(&self, number: u32) -> Option<u64>
         ensures { result ≡ owner_of number self.now }
     {
@@ -247,7 +247,7 @@ impl Judge {
         }
         match self.others.get(number) {
             None => None,
-            Some(other) => other.origin.owner,
+            Some(other) => owner_in(&other),
         }
     }
 
@@ -282,6 +282,17 @@ impl Judge {
         if is_drawing && self.is_full(held) {
             return Some(AddFault::Full);
         }
+        None
+    }
+}
+
+/// Who owns where a number has answered from.
+fn owner_in(other: &Other) -> Option<u64>
+    ensures { result ≡ owner_in (Some other.now) }
+{
+    if other.answered.is_some() {
+        other.origin.owner
+    } else {
         None
     }
 }

@@ -4,13 +4,20 @@
 ghost use Rattle.std.specs.Prelude.{◌≡◌, ◌^◌};
 ghost use Rattle.wb_judge.specs.declared.limits.TheConstants.{AHEAD_KNOWN, AHEAD_STRANGER, ASKED_AHEAD, ASKED_PAUSE, DRIFT, FIRM_TIME, FRESH, LEAST_SHARE, MOST_KNOWN, MOST_OTHERS, MOST_OWN, MOST_SHARING, OF_ORIGIN, PATIENCE, REPAIRS_AHEAD, REPAIRS_OF_ONE, REPAIR_PAUSE, RESERVE, SILENCE, STRANGERS, STRANGE_PAGES, STRANGE_ROWS, TIME_LIMIT};
 ghost use Rattle.wb_judge.specs.Members.{KnownAgain, KnownBeside, MembersAreHeard, NumbersBeside, RequestsArePaidFor, RequestsHaveRoom};
-ghost use Rattle.wb_judge.specs.Laws.{AMemberIsNotDropped, FewAreTaken, NamesCountOnce, NamesTakeTurns, NobodyHushesFirmNames, NumbersStay, OnlyAnswersMakeKnown, RepairsAreFew, RepairsAreShared, ReplayIsNoTwin, SharesStay, StateIsBounded, StaysStrange, StrangersAreFew, StrangersHaveAShare, StrangersHushNobody, TurnsAreFew, VouchesForNobody};
+ghost use Rattle.wb_judge.specs.Laws.{AMemberIsNotDropped, ClaimsBindNobody, FewAreTaken, NamesCountOnce, NamesTakeTurns, NobodyHushesFirmNames, NumbersStay, OnlyAnswersMakeKnown, OwnersStay, RepairsAreFew, RepairsAreShared, ReplayIsNoTwin, SharesStay, StateIsBounded, StaysStrange, StrangersAreFew, StrangersHaveAShare, StrangersHushNobody, TurnsAreFew, VouchesForNobody};
 
 /// An origin becomes known by an answer that came from there, and by nothing else. A number that
 /// has answered us stays where it speaks, while it speaks, until it answers from elsewhere.
 pub fn only_answers_make_known()
     ensures known { OnlyAnswersMakeKnown }
     ensures numbers { NumbersStay }
+{}
+
+/// If the network keeps origins, whoever answers under a number keeps it, and no other owner speaks
+/// under it, while its origin is remembered. Whoever only claims a number keeps it from nobody.
+pub fn owners_stay()
+    ensures stay { OwnersStay }
+    ensures claims { ClaimsBindNobody }
 {}
 
 /// A member's drawop is not dropped that is not ours, is at most a day ahead of the time of day,

@@ -2,7 +2,7 @@
 
 ghost use Rattle.std.specs.Prelude.{◌≡◌, ◌<◌, ◌^◌};
 ghost use Rattle.wb_names.specs.Moments.{IsMoment};
-ghost use Rattle.wb_judge.specs.Judging.{ahead_of, draws, drawop_verdict, is_ahead, is_forged_drawop};
+ghost use Rattle.wb_judge.specs.Judging.{ahead_of, draws, drawop_verdict, is_ahead, is_claimed, is_forged_drawop};
 
 use super::Judge;
 use crate::facts::Facts;
@@ -29,8 +29,7 @@ impl Judge {
         if self.is_forged_drawop(known, drawop, facts) {
             return Verdict::dropped(Why::Own);
         }
-        let source = drawop.name().source();
-        if !known && self.others.is_bound_elsewhere(source, origin, facts.at) {
+        if !known && self.is_claimed(origin, drawop.name().source(), facts.at) {
             return Verdict::dropped(Why::Speaks);
         }
         if self.is_ahead(known, drawop.time(), facts.at) {
@@ -49,6 +48,14 @@ impl Judge {
             return Verdict::dropped(Why::Pages);
         }
         Verdict::TAKEN
+    }
+
+    /// Whether a stranger's drawop is under the number of a member that speaks from elsewhere. Where
+    /// origins have owners that is a repair, as anybody may give one.
+    fn is_claimed(&self, origin: Origin, number: u32, now: u64) -> bool
+        ensures { result ≡ is_claimed origin number now self.now }
+    {
+        origin.owner.is_none() && self.others.is_bound_elsewhere(number, origin, now)
     }
 
     /// Whether a drawop that has our number is not ours, or raises our numbers. While we listen none
