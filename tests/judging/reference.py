@@ -33,6 +33,9 @@ RESERVE = 32
 # So many at once, and then one in each pause: numbers that are heard first, those that answer us, and requests and questions of origins that
 # are not known.
 MOST_NEW, MOST_ANSWERING, NEW_PAUSE = 256, 256, SECOND
+
+# above this no number more of an origin that has one, so that there is room for one that has none
+NEW_OF_ONE = 128
 MOST_ASKED, ASKED_PAUSE = 64, SECOND // 16
 
 # So many requests of members for what is held, each of which brings a repair; above REPAIRS_OF_ONE, not two in a row of one member.
@@ -191,6 +194,9 @@ class Judge:
         other = self.others.get(number)
         return other is not None and other.origin != origin and other.answered is not None and now - other.at <= PATIENCE
 
+    def has_number(self, origin: Origin) -> bool:
+        return any(other.origin == origin for other in self.others.values())
+
     def owner_of(self, number: int) -> Optional[str]:
         """Who answered under a number owns it; who only claims it does not. Ours is ours."""
         other = self.others.get(number)
@@ -255,7 +261,7 @@ class Judge:
         if not is_answer and self.is_bound_elsewhere(datagram.speaker, origin, facts.now):
             return Verdict("speaks")
         has_room = other is not None and (is_answer or other.origin == origin)
-        if not has_room and not (self.answering if is_answer else self.new).takes(facts.now):
+        if not has_room and not (self.answering if is_answer else self.new).takes(facts.now, NEW_OF_ONE if self.has_number(origin) else None):
             return Verdict("crowd")
         own = datagram.marks.get(self.me, 0)
         if facts.listens and own > facts.top + FORGED_ABOVE:

@@ -65,7 +65,8 @@ RULES = [
     Rule("strangers' requests are few", "Verdict(None if self.asked.takes(facts.now) else \"flood\")", "Verdict()", "a request storm"),
     Rule("members' too", "        if not self.repairs.takes(now, REPAIRS_OF_ONE if origin == self.served else MOST_REPAIRS):\n            return False\n", "", "requests of one member that floods leave half to others"),
     Rule("and one member leaves half to the others", "REPAIRS_OF_ONE if origin == self.served else MOST_REPAIRS", "MOST_REPAIRS", "requests of one member that floods leave half to others"),
-    Rule("new numbers are few", "if not has_room and not (self.answering if is_answer else self.new).takes(facts.now)", "if not has_room and is_answer and not self.answering.takes(facts.now)", "crowds"),
+    Rule("new numbers are few", "if not has_room and not (self.answering if is_answer else self.new)", "if not has_room and is_answer and not self.answering", "crowds"),
+    Rule("there is room beside one that names many", "NEW_OF_ONE if self.has_number(origin) else None", "None", "a newcomer comes in beside one that names ever more numbers"),
     Rule("who answers finds room beside them", "(self.answering if is_answer else self.new)", "self.new", "who answers finds room"),
     # drawops under our own number
     Rule("a drawop raises no number of ours", "or facts.above or", "or", "a liar stops nobody by drawops"),

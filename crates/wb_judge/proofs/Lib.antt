@@ -19,3 +19,4 @@ pub mod MembersStay
 pub mod NumbersBeside
 pub mod Room
 pub mod Owners
+pub mod Newcomers

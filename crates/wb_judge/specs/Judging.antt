@@ -1,5 +1,5 @@
 -- What becomes of a datagram, and of the judge.
-use Rattle.std.specs.Prelude.{ℕ, ◌+◌, ◌-◌, Bool, true, false, not, ◌&&◌, ◌||◌, [], Option, Some, None, is_none, is_some, nat_eq, nat_le, nat_lt, if◌then◌else◌}
+use Rattle.std.specs.Prelude.{ℕ, ◌+◌, ◌-◌, Bool, true, false, not, ◌&&◌, ◌||◌, List, [], Option, Some, None, is_none, is_some, nat_eq, nat_le, nat_lt, if◌then◌else◌}
 use Rattle.std.specs.List.{list_any}
 use Rattle.wb_names.specs.Values.{DrawopValue, NameValue}
 use Rattle.wb_names.specs.declared.name.TheConstants.{FIRST_FORGED}
@@ -13,12 +13,12 @@ use Rattle.wb_judge.specs.Days.{time_of_day}
 use Rattle.wb_judge.specs.Judge.{Judge, hushes, is_forged, is_full, knows}
 use Rattle.wb_judge.specs.Known.{known_from, renewed}
 use Rattle.wb_judge.specs.Origins.{same_origin}
-use Rattle.wb_judge.specs.Others.{is_bound_elsewhere, other_of, other_with, spoken}
+use Rattle.wb_judge.specs.Others.{has_number, is_bound_elsewhere, other_of, other_with, spoken}
 use Rattle.wb_judge.specs.Reports.{report_of}
 use Rattle.wb_judge.specs.Strange.{is_over, is_there, is_wide, without_origin}
 use Rattle.wb_judge.specs.Verdicts.{dropped, taken, warned}
 use Rattle.wb_judge.specs.declared.facts.Facts.{Facts}
-use Rattle.wb_judge.specs.declared.limits.TheConstants.{AHEAD_KNOWN, AHEAD_STRANGER, ASKED_AHEAD, ASKED_PAUSE, FETCH_AGAIN, FETCH_PAUSE, FORGED_ABOVE, LACKING, NEW_AHEAD, NEW_PAUSE, REPAIRS_AHEAD, REPAIRS_OF_ONE, REPAIR_PAUSE}
+use Rattle.wb_judge.specs.declared.limits.TheConstants.{AHEAD_KNOWN, AHEAD_STRANGER, ASKED_AHEAD, ASKED_PAUSE, FETCH_AGAIN, FETCH_PAUSE, FORGED_ABOVE, LACKING, NEW_AHEAD, NEW_OF_ONE, NEW_PAUSE, REPAIRS_AHEAD, REPAIRS_OF_ONE, REPAIR_PAUSE}
 use Rattle.wb_judge.specs.declared.origin.Origin.{Origin}
 use Rattle.wb_judge.specs.declared.others.Other.{Other}
 use Rattle.wb_judge.specs.declared.report.Report.{Report}
@@ -117,8 +117,12 @@ is_heard o answer (Some x) = answer || same_origin x.origin o
 abbrev pub paid_for : Bool → Judge → ℕ
 paid_for answer j = if answer then j.answering else j.hearing
 
+-- The second half of those at once is kept for origins that have no number.
+abbrev pub new_ahead : Origin → List Other → ℕ
+new_ahead o others = if has_number o others then NEW_OF_ONE else NEW_AHEAD
+
 unfoldable pub is_admitted : Origin → ℕ → Bool → ℕ → Judge → Bool
-is_admitted o number answer now j = is_heard o answer (other_of number j.others) || has_room NEW_AHEAD (paid_for answer j) now
+is_admitted o number answer now j = is_heard o answer (other_of number j.others) || has_room (new_ahead o j.others) (paid_for answer j) now
 
 abbrev pub with_payment : Bool → ℕ → Judge → Judge
 with_payment answer paid j = if answer then record j { answering = paid } else record j { hearing = paid }

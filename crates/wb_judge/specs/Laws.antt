@@ -10,8 +10,8 @@ use Rattle.wb_judge.specs.Buckets.{has_room, paid_after}
 use Rattle.wb_judge.specs.Days.{DayClock, time_of_day}
 use Rattle.wb_judge.specs.Firm.{is_firm_beside, turn_at, turns}
 use Rattle.wb_judge.specs.Judge.{Judge, after_leaving, after_taking, is_another, is_firm, is_forged, is_full, knows, owner_in}
-use Rattle.wb_judge.specs.Judging.{after_judging, draws, verdict}
-use Rattle.wb_judge.specs.Others.{is_bound_elsewhere, other_of}
+use Rattle.wb_judge.specs.Judging.{after_admitting, after_judging, draws, is_admitted, is_heard, verdict}
+use Rattle.wb_judge.specs.Others.{has_number, is_bound_elsewhere, other_of}
 use Rattle.wb_judge.specs.Reports.{echo_to}
 use Rattle.wb_judge.specs.Strange.{has_name, is_given_by, is_there, with_given}
 use Rattle.wb_judge.specs.declared.facts.Facts.{Facts}
@@ -205,6 +205,11 @@ StrangersAreFew = (start end : ℕ) (steps : List Step) (j : Judge) → AreFrom 
 abbrev pub RepairsAreShared : Type 0
 RepairsAreShared = (o : Origin) (asker : ℕ) (name : NameValue) (f : Facts) (j : Judge) → f.holds ≡ true → knows o f.at j ≡ true
     → is_there o j.served ≡ true → (verdict o (Request asker name) f j).why ≡ None → has_room REPAIRS_OF_ONE j.repairs f.at ≡ true
+
+-- A number that is new is admitted of an origin that has one only if there is room, after it, for one of an origin that has none.
+abbrev pub NewcomersHaveRoom : Type 0
+NewcomersHaveRoom = (o p : Origin) (number other : ℕ) (answer : Bool) (now : ℕ) (j : Judge) → is_heard o answer (other_of number j.others) ≡ false → has_number o j.others ≡ true
+    → is_admitted o number answer now j ≡ true → has_number p j.others ≡ false → is_admitted p other answer now (after_admitting o number answer now j) ≡ true
 
 -- ---- all that is remembered is bounded
 pub record IsBounded (j : Judge) : Type 0 where

@@ -4,7 +4,7 @@
 ghost use Rattle.std.specs.Prelude.{◌≡◌, ◌^◌};
 ghost use Rattle.wb_judge.specs.declared.limits.TheConstants.{AHEAD_KNOWN, AHEAD_STRANGER, ASKED_AHEAD, ASKED_PAUSE, DRIFT, FIRM_TIME, FRESH, LEAST_SHARE, MOST_KNOWN, MOST_OTHERS, MOST_OWN, MOST_SHARING, OF_ORIGIN, PATIENCE, REPAIRS_AHEAD, REPAIRS_OF_ONE, REPAIR_PAUSE, RESERVE, SILENCE, STRANGERS, STRANGE_PAGES, STRANGE_ROWS, TIME_LIMIT};
 ghost use Rattle.wb_judge.specs.Members.{KnownAgain, KnownBeside, MembersAreHeard, NumbersBeside, RequestsArePaidFor, RequestsHaveRoom};
-ghost use Rattle.wb_judge.specs.Laws.{AMemberIsNotDropped, ClaimsBindNobody, FewAreTaken, NamesCountOnce, NamesTakeTurns, NobodyHushesFirmNames, NumbersStay, OnlyAnswersMakeKnown, OwnersStay, RepairsAreFew, RepairsAreShared, ReplayIsNoTwin, SharesStay, StateIsBounded, StaysStrange, StrangersAreFew, StrangersHaveAShare, StrangersHushNobody, TurnsAreFew, VouchesForNobody};
+ghost use Rattle.wb_judge.specs.Laws.{AMemberIsNotDropped, ClaimsBindNobody, FewAreTaken, NamesCountOnce, NamesTakeTurns, NewcomersHaveRoom, NobodyHushesFirmNames, NumbersStay, OnlyAnswersMakeKnown, OwnersStay, RepairsAreFew, RepairsAreShared, ReplayIsNoTwin, SharesStay, StateIsBounded, StaysStrange, StrangersAreFew, StrangersHaveAShare, StrangersHushNobody, TurnsAreFew, VouchesForNobody};
 
 /// An origin becomes known by an answer that came from there, and by nothing else. A number that
 /// has answered us stays where it speaks, while it speaks, until it answers from elsewhere.
@@ -86,6 +86,12 @@ pub fn repairs_are_few()
     ensures members { RepairsAreFew }
     ensures strangers { StrangersAreFew }
     ensures shared { RepairsAreShared }
+{}
+
+/// However many numbers speak from origins that have one, whether they answer or not, there is room
+/// for a number of an origin that has none.
+pub fn newcomers_have_room()
+    ensures { NewcomersHaveRoom }
 {}
 
 /// What answers nobody, as a replay, shows no twin.

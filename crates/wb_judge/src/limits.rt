@@ -46,6 +46,10 @@ pub const RESERVE: u32 = 32;
 /// before are paid for up to this far ahead at most.
 pub const NEW_AHEAD: u64 = 255_000_000;
 
+/// While more than half of these are used up, none is heard of an origin that has a number: so there
+/// is room for one that has none.
+pub const NEW_OF_ONE: u64 = 127_000_000;
+
 /// What a new number costs.
 pub const NEW_PAUSE: u64 = 1_000_000;
 
