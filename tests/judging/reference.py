@@ -14,6 +14,9 @@ MINUTE, DAY = 60 * SECOND, 86_400 * SECOND
 # Moments of our own reports that are remembered. An echo of one that is older than FRESH answers nobody. Of two clocks one may go faster by one part in DRIFT.
 OWN, FRESH, DRIFT = 256, 256 * SECOND, 4_096
 
+# the most origins of which the last report under our number is remembered that is not ours
+MOST_ALIENS = 8
+
 # An origin that answered us is known until it was silent for so long, and a number stays with its origin for so long.
 SILENCE, PATIENCE = 600 * SECOND, 192 * SECOND
 
@@ -140,7 +143,7 @@ class Judge:
         self.known: Dict[Origin, int] = {}  # when something last came from there
         self.others: Dict[int, Other] = {}  # the one that was heard last at the end
         self.own: List[int] = []
-        self.alien: Optional[Tuple[int, int]] = None  # of the last report under our number that is not ours: its moment, and when it came
+        self.aliens: Dict[Origin, Tuple[int, int]] = {}  # of the last report under our number from there that is not ours: its moment, and when it came
         self.strange: Dict[Name, Origin] = {}  # what is held that no known origin gave
         self.new = Bucket(MOST_NEW, NEW_PAUSE)
         self.answering = Bucket(MOST_ANSWERING, NEW_PAUSE)
@@ -242,19 +245,25 @@ class Judge:
         if self.is_forged(datagram.speaker, origin):
             return Verdict("speaks", "speaks %d" % datagram.speaker)
         if datagram.speaker == self.me:
-            return self.judge_own(datagram, facts.now)
+            return self.judge_own(origin, datagram, facts.now)
         if datagram.kind in ("session-message", "page-state"):
             return self.judge_report(origin, datagram, facts)
         return self.judge_question(origin, datagram, facts)
 
-    def judge_own(self, datagram: Datagram, now: int) -> Verdict:
+    def judge_own(self, origin: Origin, datagram: Datagram, now: int) -> Verdict:
         """Under our own number. If it is no report of ours and answers us, somebody is here who has our number too."""
         if datagram.kind == "session-message" and datagram.sent not in self.own:
-            self.alien = datagram.sent, now
+            self.put_alien(origin, datagram.sent, now)
             if self.answers(datagram, now) and not self.has_twin:
                 self.has_twin = True
                 return Verdict("own", "twin")
         return Verdict("own")
+
+    def put_alien(self, origin: Origin, sent: int, now: int) -> None:
+        """It is remembered if there is room beside those of other origins. So noise hides no twin."""
+        self.aliens = {each: alien for each, alien in self.aliens.items() if each != origin and now - alien[1] <= FRESH}
+        if len(self.aliens) < MOST_ALIENS:
+            self.aliens[origin] = sent, now
 
     def judge_report(self, origin: Origin, datagram: Datagram, facts: Facts) -> Verdict:
         is_answer, other = self.answers(datagram, facts.now), self.others.get(datagram.speaker)
@@ -344,11 +353,12 @@ class Judge:
     # ---- what is sent
 
     def own_echo(self, now: int) -> Optional[Tuple[int, int]]:
-        """What a report of ours echoes besides, under our own number: the moment of the last report that was not ours, and how long ago it
-        came. Who has our number too hears by it that we have heard it."""
-        if self.alien is None or now - self.alien[1] > FRESH:
+        """What a report of ours echoes besides, under our own number: the moment of a report that was not ours, and how long ago it came. Who
+        has our number too hears by it that we have heard it. Each origin has its turns, by the last microseconds of our moment."""
+        if not self.aliens:
             return None
-        return self.alien[0], now - self.alien[1]
+        sent, at = list(self.aliens.values())[now % len(self.aliens)]
+        return None if now - at > FRESH else (sent, now - at)
 
     def fault_of_adding(self, is_drawing: bool, held: int) -> Optional[str]:
         """Why nothing can be drawn."""

@@ -50,7 +50,9 @@ RULES = [
     Rule("a replay of an earlier start is no twin", "if self.answers(datagram, now) and not self.has_twin:", "if not self.has_twin:", "a replay is no twin"),
     Rule("nor is one of this start", "datagram.kind == \"session-message\" and datagram.sent not in self.own", "datagram.kind == \"session-message\"", "a replay is no twin"),
     Rule("nor who echoes an old moment", "ago <= FRESH and held", "held", "an old echo shows no twin"),
-    Rule("a twin is told of itself", "self.alien = datagram.sent, now\n", "pass\n", "twins see each other"),
+    Rule("a twin is told of itself", "            self.aliens[origin] = sent, now\n", "            pass\n", "twins see each other"),
+    Rule("also beside noise", "list(self.aliens.values())[now % len(self.aliens)]", "list(self.aliens.values())[-1]", "twins see each other beside noise"),
+    Rule("and nobody hides it", "        if len(self.aliens) < MOST_ALIENS:\n", "        if True:\n", "a ninth origin under our number pushes out no other"),
     Rule("who has one draws nothing", "        if self.has_twin:\n            return \"twin\"\n", "", "twins see each other"),
     # pages
     Rule("ours are listed first", "rank = 0 if name.source == self.me else 2", "rank = 2", "pages are not pushed out"),

@@ -20,3 +20,4 @@ pub mod NumbersBeside
 pub mod Room
 pub mod Owners
 pub mod Newcomers
+pub mod Noise

@@ -7,7 +7,7 @@ use Rattle.wb_judge.specs.Buckets.{has_room, paid_after}
 use Rattle.wb_judge.specs.Judge.{Judge}
 use Rattle.wb_judge.specs.Judging.{after_admitting, is_admitted, is_heard, new_ahead, paid_for, with_payment}
 use Rattle.wb_judge.specs.Laws.{NewcomersHaveRoom}
-use Rattle.wb_judge.specs.Others.{has_number, other_of}
+use Rattle.wb_judge.specs.Others.{has_speaker, other_of}
 use Rattle.wb_judge.specs.declared.limits.TheConstants.{NEW_AHEAD, NEW_OF_ONE, NEW_PAUSE}
 use Rattle.wb_judge.specs.declared.origin.Origin.{Origin}
 

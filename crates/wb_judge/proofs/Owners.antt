@@ -26,7 +26,7 @@ said_so o s j ours theirs us them forged = rw forged (refl, refl)
 pub owners_stay : OwnersStay
 owners_stay o number (Session s sent page marks echoes) f j says other owned =
     let i = after_coming o f.at j in let r = report_of j.me s marks echoes in
-    said_so o s i (own_verdict sent r f.at i) (report_verdict o r f i) (after_own sent r f.at i) (after_report o r f i) (forged_is o number s j says other owned)
+    said_so o s i (own_verdict sent r f.at i) (report_verdict o r f i) (after_own o sent r f.at i) (after_report o r f i) (forged_is o number s j says other owned)
 owners_stay o number (PageState s page marks) f j says other owned =
     let i = after_coming o f.at j in let r = report_of j.me s marks [] in
     said_so o s i (dropped Own) (report_verdict o r f i) i (after_report o r f i) (forged_is o number s j says other owned)

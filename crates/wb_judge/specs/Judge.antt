@@ -7,7 +7,7 @@ use Rattle.wb_judge.specs.Others.{gone_from, other_of}
 use Rattle.wb_judge.specs.Shares.{Shares}
 use Rattle.wb_judge.specs.Strange.{no_shares, with_given}
 use Rattle.wb_judge.specs.Days.{DayClock}
-use Rattle.wb_judge.specs.declared.judge.Alien.{Alien}
+use Rattle.wb_judge.specs.declared.aliens.Alien.{Alien}
 use Rattle.wb_judge.specs.declared.known.KnownOrigin.{KnownOrigin}
 use Rattle.wb_judge.specs.declared.limits.TheConstants.{RESERVE}
 use Rattle.wb_judge.specs.declared.origin.Origin.{Origin}
@@ -15,7 +15,7 @@ use Rattle.wb_judge.specs.declared.others.Other.{Other}
 use Rattle.wb_judge.specs.declared.strange.Given.{Given}
 
 -- Our number, the cells of our board and the owner of our own origin; the time of day; the moments of our reports; the origins that are known, the
--- numbers that were heard, and what is held of strangers; the last report under our number that is not ours; up to which moments new numbers,
+-- numbers that were heard, and what is held of strangers; the last reports under our number that are not ours; up to which moments new numbers,
 -- new numbers that answer, questions of strangers and repairs for members are paid for, and for which of these the last one was; before which
 -- moment no stream begins; and whether somebody has our number too.
 pub record Judge : Type 0 where
@@ -27,7 +27,7 @@ pub record Judge : Type 0 where
   pub known : List KnownOrigin
   pub others : List Other
   pub strange : Shares
-  pub alien : Option Alien
+  pub aliens : List Alien
   pub hearing : ℕ
   pub answering : ℕ
   pub asked : ℕ
@@ -46,7 +46,7 @@ opened me cells now wall here strangers = record {
   known = [];
   others = [];
   strange = no_shares cells strangers;
-  alien = None;
+  aliens = [];
   hearing = 0;
   answering = 0;
   asked = 0;

@@ -7,13 +7,14 @@ use Rattle.wb_names.specs.declared.parts.Op.{Op}
 use Rattle.wb_names.specs.declared.parts.Op.TheVariants.{Aimed, Drawn, Text}
 use Rattle.wb_codec.specs.declared.datagram.Datagram.{Datagram}
 use Rattle.wb_codec.specs.declared.datagram.Datagram.TheVariants.{AskPages, Draw, PageState, Request, Session}
+use Rattle.wb_judge.specs.Aliens.{with_alien}
 use Rattle.wb_judge.specs.Answers.{answers}
 use Rattle.wb_judge.specs.Buckets.{has_room, paid_after}
 use Rattle.wb_judge.specs.Days.{time_of_day}
 use Rattle.wb_judge.specs.Judge.{Judge, hushes, is_forged, is_full, knows}
 use Rattle.wb_judge.specs.Known.{known_from, renewed}
 use Rattle.wb_judge.specs.Origins.{same_origin}
-use Rattle.wb_judge.specs.Others.{has_number, is_bound_elsewhere, other_of, other_with, spoken}
+use Rattle.wb_judge.specs.Others.{has_speaker, is_bound_elsewhere, other_of, other_with, spoken}
 use Rattle.wb_judge.specs.Reports.{report_of}
 use Rattle.wb_judge.specs.Strange.{is_over, is_there, is_wide, without_origin}
 use Rattle.wb_judge.specs.Verdicts.{dropped, taken, warned}
@@ -119,7 +120,7 @@ paid_for answer j = if answer then j.answering else j.hearing
 
 -- The second half of those at once is kept for origins that have no number.
 abbrev pub new_ahead : Origin → List Other → ℕ
-new_ahead o others = if has_number o others then NEW_OF_ONE else NEW_AHEAD
+new_ahead o others = if has_speaker o others then NEW_OF_ONE else NEW_AHEAD
 
 unfoldable pub is_admitted : Origin → ℕ → Bool → ℕ → Judge → Bool
 is_admitted o number answer now j = is_heard o answer (other_of number j.others) || has_room (new_ahead o j.others) (paid_for answer j) now
@@ -213,10 +214,10 @@ is_twin sent r now j = not (list_any (nat_eq sent) j.own) && answers j.own r.ech
 unfoldable pub own_verdict : ℕ → Report → ℕ → Judge → Verdict
 own_verdict sent r now j = if is_twin sent r now j && not j.has_twin then warned Own Twin else dropped Own
 
-unfoldable pub after_own : ℕ → Report → ℕ → Judge → Judge
-after_own sent r now j =
+unfoldable pub after_own : Origin → ℕ → Report → ℕ → Judge → Judge
+after_own o sent r now j =
     if list_any (nat_eq sent) j.own then j
-    else record j { alien = Some (record { sent = sent; at = now }); has_twin = j.has_twin || is_twin sent r now j }
+    else record j { aliens = with_alien (record { origin = o; sent = sent; at = now }) j.aliens; has_twin = j.has_twin || is_twin sent r now j }
 
 -- ---- any datagram
 
@@ -239,7 +240,7 @@ verdict_of o (AskPages asker) f j = said_verdict o asker j (dropped Own) (questi
 abbrev pub after_of : Origin → Datagram → Facts → Judge → Judge
 after_of o (Draw d) f j = j
 after_of o (Session s sent page marks echoes) f j =
-    let r = report_of j.me s marks echoes in after_said o s j (after_own sent r f.at j) (after_report o r f j)
+    let r = report_of j.me s marks echoes in after_said o s j (after_own o sent r f.at j) (after_report o r f j)
 after_of o (PageState s page marks) f j = after_said o s j j (after_report o (report_of j.me s marks []) f j)
 after_of o (Request asker name) f j = after_said o asker j j (after_request o f j)
 after_of o (AskPages asker) f j = after_said o asker j j (after_question o f.at j)

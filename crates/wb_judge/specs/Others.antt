@@ -10,8 +10,8 @@ abbrev pub other_of : ℕ → List Other → Option Other
 other_of number others = find (λ x. nat_eq x.number number) others
 
 -- some number speaks from there
-abbrev pub has_number : Origin → List Other → Bool
-has_number o others = list_any (λ x. same_origin x.origin o) others
+abbrev pub has_speaker : Origin → List Other → Bool
+has_speaker o others = list_any (λ x. same_origin x.origin o) others
 
 -- it has answered us, and speaks from another origin
 abbrev pub is_elsewhere : Origin → ℕ → Option Other → Bool

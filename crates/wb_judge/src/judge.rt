@@ -10,6 +10,7 @@ ghost use Rattle.wb_judge.specs.Pages.{rank_of};
 ghost use Rattle.wb_judge.specs.Strange.{with_given, without_name};
 ghost use Rattle.wb_judge.specs.declared.limits.TheConstants.{TIME_LIMIT};
 
+use crate::aliens::Aliens;
 use crate::bucket::Bucket;
 use crate::day_clock::DayClock;
 use crate::known::Known;
@@ -28,13 +29,6 @@ mod hushing;
 mod judging;
 mod questions;
 mod reports;
-
-/// The last report under our number that is not ours: its moment, and the moment at which it came.
-#[derive(Clone, Copy, Debug)]
-pub struct Alien {
-    pub sent: u64,
-    pub at: u64,
-}
 
 /// Why nothing can be drawn.
 #[derive(Clone, Copy, Debug, PartialEq, Eq)]
@@ -70,7 +64,7 @@ pub struct Judge {
     known: Known,
     others: Others,
     strange: Strange,
-    alien: Option<Alien>,
+    aliens: Aliens,
     hearing: Bucket,
     answering: Bucket,
     asked: Bucket,
@@ -94,7 +88,7 @@ impl Model for Judge {
       known = j.known;
       others = j.others;
       strange = j.strange;
-      alien = j.alien;
+      aliens = j.aliens;
       hearing = j.hearing.paid;
       answering = j.answering.paid;
       asked = j.asked.paid;
@@ -126,7 +120,7 @@ impl Judge {
             known: Known::new(alloc)?,
             others: Others::new(alloc)?,
             strange: Strange::new(alloc, cells, strangers)?,
-            alien: None,
+            aliens: Aliens::new(alloc)?,
             hearing: Bucket::WHOLE,
             answering: Bucket::WHOLE,
             asked: Bucket::WHOLE,
@@ -252,11 +246,12 @@ impl Judge {
     }
 
     /// What a report of ours that leaves now echoes besides, under our own number: whoever has our
-    /// number too hears from it that we have heard them. To all others the report says the same.
+    /// number too hears from it that we have heard them. Those of eight origins have their turns. To
+    /// all others the report says the same.
     pub fn own_echo(&self, now: u64) -> Option<Echo>
         ensures { result ≡ own_echo now self.now }
     {
-        match self.alien {
+        match self.aliens.at(now) {
             None => None,
             Some(alien) => {
                 let held = now.saturating_sub(alien.at);

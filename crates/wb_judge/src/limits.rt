@@ -4,6 +4,9 @@
 /// report, so whoever echoes it is a member.
 pub const MOST_OWN: usize = 256;
 
+/// The most origins of which the last report under our number is remembered that is not ours.
+pub const MOST_ALIENS: usize = 8;
+
 /// An echo of a moment that is older answers nobody.
 pub const FRESH: u64 = 256_000_000;
 

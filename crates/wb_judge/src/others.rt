@@ -2,7 +2,7 @@
 
 ghost use Rattle.std.specs.Prelude.{◌≡◌, ◌≤◌, ◌<◌, [], IfOk, IfSome, is_none, length, position};
 ghost use Rattle.wb_judge.specs.Firm.{is_present, present};
-ghost use Rattle.wb_judge.specs.Others.{first_to_go, gone_from, has_number, heard_lately, is_bound_elsewhere, other_of, other_with, spoken, without};
+ghost use Rattle.wb_judge.specs.Others.{first_to_go, gone_from, has_speaker, heard_lately, is_bound_elsewhere, other_of, other_with, spoken, without};
 
 use crate::limits::{MOST_OTHERS, PATIENCE};
 use crate::origin::Origin;
@@ -65,8 +65,8 @@ impl Others {
     }
 
     /// Whether some number speaks from there.
-    pub(crate) fn has_number(&self, origin: Origin) -> bool
-        ensures { result ≡ has_number origin self.now }
+    pub(crate) fn has_speaker(&self, origin: Origin) -> bool
+        ensures { result ≡ has_speaker origin self.now }
     {
         self.items.iter().any(|other| other.origin.is(&origin))
     }

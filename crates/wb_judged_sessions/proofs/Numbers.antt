@@ -267,7 +267,7 @@ spoken_in o (Session s sent page marks echoes) f j =
     let v = Session s sent page marks echoes in
     let i = after_coming o f.at j in
     let r = report_of j.me s marks echoes in
-    in_it o s v f j (after_judging o v f j) refl (said_others o s (is_answer v f.at j) f.at j i (after_own sent r f.at i) (after_report o r f i) refl (own_others sent r f.at i) (report_others o r f i))
+    in_it o s v f j (after_judging o v f j) refl (said_others o s (is_answer v f.at j) f.at j i (after_own o sent r f.at i) (after_report o r f i) refl (own_others o sent r f.at i) (report_others o r f i))
 spoken_in o (PageState s page marks) f j =
     let v = PageState s page marks in
     let i = after_coming o f.at j in
@@ -420,7 +420,7 @@ heard_now o s sent page marks echoes f j at another fine heard =
       answer = answers j.own r.echo f.at
 
       ours : Judge
-      ours = after_own sent r f.at i
+      ours = after_own o sent r f.at i
 
       theirs : Judge
       theirs = after_report o r f i
