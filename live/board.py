@@ -107,6 +107,7 @@ class Board:
         try:
             self.begin(held, listening, lead)
             blocks = [block for some in self.parts(held.lines, waiting, 0) for block in self.ask(["held " + line for line in some])]
+            self.check_taken(held.lines, blocks)
             return list(zip(held.datagrams, blocks))
         except BaseException:
             self.host.end()
@@ -120,6 +121,12 @@ class Board:
         begun = self.ask([held.board, self.line_to_judge()])
         if any(block.fault is not None for block in begun):
             raise RecordFault("%s: no host can have its board: %s" % (self.record.path, held.board))
+
+    def check_taken(self, lines: List[str], blocks: List[Block]) -> None:
+        """RecordFault where the host refused a line of the record: a number would be used twice without it."""
+        for line, block in zip(lines, blocks):
+            if block.fault is not None:
+                raise RecordFault("%s: no host takes a line of it (%s): %s" % (self.record.path, block.fault, line[:60]))
 
     def line_to_judge(self) -> str:
         """The line that makes a host judge. Under a key nobody is a stranger for long, and what came before is replayed from outside."""

@@ -2,7 +2,7 @@
 // on with all that is held.
 import fs from 'node:fs';
 import test from 'node:test';
-import { Board, NoRoom } from '../../web/member/board.js';
+import { Board, BoardFault, NoRoom } from '../../web/member/board.js';
 import { readDatagram, unhex } from '../../web/member/datagram.js';
 import { heldOf, nameIn } from '../../web/member/held.js';
 import { HostEnded, Program } from '../../web/member/host.js';
@@ -189,6 +189,14 @@ async function testEnds(program) {
   check('and no mark of the one before', lines.some((line) => line.startsWith('page-state')), false);
   check('and what it drew under the one before is a member\u2019s', readDatagram(unhex(own.slice(9))).words, drawop.words);
   check('and draws', (await board.draw(PAGE, 'line 0 1 4 1 +')).drawop.name, '5 1/1 1');
+}
+
+/** A record with a line that no host takes is none to draw on. */
+async function testRefused(program) {
+  const record = new Record(null, 'here', 1), drawn = 'say draw 7 1/1 2147483648 5 line 0 0 4 0 o';
+  record.add('board 7 100 1 42', drawn);
+  const fault = await boardOf(program, record).catch((it) => it);
+  check('a drawing of ours from 2^31 on ends the start', [fault instanceof BoardFault, fault.message], [true, `no host takes a line of the record (ours): ${drawn}`]);
 }
 
 /** A host that breaks off is started again, but not after the fourth time within a minute. */
@@ -476,4 +484,4 @@ async function testForgedTwin(program) {
 }
 
 const program = new Program(await WebAssembly.compile(fs.readFileSync(file)), false);
-for (const each of [testOld, testLines, testBegun, testMarks, testClock, testDraw, testShowing, testNoRoom, testOneSync, testEnds, testStarts, testBefore, testOwnMarks, testRoom, testPageInView, testTime, testNames, testSession, testStrangers, testTail, testTwins, testForgedTwin]) test(each.name.slice('test'.length), () => each(program));
+for (const each of [testOld, testLines, testBegun, testMarks, testClock, testDraw, testShowing, testNoRoom, testOneSync, testEnds, testRefused, testStarts, testBefore, testOwnMarks, testRoom, testPageInView, testTime, testNames, testSession, testStrangers, testTail, testTwins, testForgedTwin]) test(each.name.slice('test'.length), () => each(program));

@@ -80,12 +80,18 @@ class Judged:
     def own_top(self, page: Page) -> int:
         return dict(self.kept.host.highest(page)).get(self.kept.host.me, 0)
 
+    def last_of_ours(self, page: Page) -> int:
+        """The greatest number of ours that is held or was heard of."""
+        return int(self.kept.host.next(page).split()[1]) - 1
+
     def facts(self, now: int, datagram: Datagram) -> reference.Facts:
         host, page = self.kept.host, page_of(datagram)
         highest = dict(host.highest(page)) if page else {}
         lacking = sum(max(0, high - highest.get(source, 0)) for source, high in marks_of(datagram)[:TOLD] if source != host.me)
         holds = isinstance(datagram, (Drawop, Request)) and datagram.name in host.held
-        return reference.Facts(now, len(host.held), now < self.kept.ready, holds, self.own_top(page) if page else 0, lacking)
+        is_above = isinstance(datagram, Drawop) and datagram.name.seq > self.last_of_ours(datagram.name.page)
+        top = self.own_top(page) if page and not isinstance(datagram, Drawop) else 0
+        return reference.Facts(now, len(host.held), now < self.kept.ready, holds, is_above, top, lacking)
 
     # ---- the lines
 
@@ -111,6 +117,8 @@ class Judged:
         fault = self.judge.fault_of_adding(operation[0] < 4, len(self.kept.host.held))
         if fault:
             raise Refused(fault)
+        if self.last_of_ours(page) + 1 >= reference.FORGED_NUMBER:
+            raise Refused("too many")
         self.lines, time = [], self.judge.time_of_day(now)
         block = self.does(now, lambda: self.kept.add(now, time, page, operation, told), lambda drawop: [f"say {drawop.words()}"])
         return block if "became" in block else block + "became new\n"
@@ -182,7 +190,7 @@ class Judged:
         page, me = page_of(datagram), self.kept.host.me
         if page is None or now >= self.kept.ready or isinstance(datagram, (Drawop, Request, AskPages)):
             return []
-        last = int(self.kept.host.next(page).split()[1]) - 1
+        last = self.last_of_ours(page)
         return [f"page-state {datagram.sender} {paged(page)} {me}={high}" for source, high in datagram.marks if source == me and high > last]
 
     # ---- questions

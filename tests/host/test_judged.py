@@ -180,7 +180,7 @@ def test_many() -> None:
     given, _ = parted(judge(cells=4096))
     cases = {
         "flood": [f"came 5 6 {datagrams.ask_pages(9 + count)}" for count in range(65)],
-        "crowd": [f"came 5 6 {session(9 + count, 5, PAGE, [], [])}" for count in range(257)],
+        "crowd": [f"came 5 {count} {session(9 + count, 5, PAGE, [], [])}" for count in range(257)],
         "pages": [f"came 5 {count} {drawop(9, (9, count), 1, WALL, STROKE)}" for count in range(17)],
         "share": [f"came 5 6 {drawop(9, PAGE, 1 + count, WALL, STROKE)}" for count in range(33)],
     }

@@ -84,6 +84,10 @@ def rooms() -> List[Dict[str, Any]]:
              sent(9_000 * S), loop(1, 256, 0, came(9_000 * S, "x{}", report("77{}"), "in")),
              loop(1, 256, 0, came(9_000 * S, "y{}", report("88{}", "1@%d+0" % (9_000 * S)), "in")),
              came(9_000 * S, "z", report(5000, "1@%d+0" % (9_000 * S)), "dropped crowd"), came(9_001 * S, "z", report(5000, "1@%d+0" % (9_000 * S)), "in")),
+        case("128 new numbers of one origin at once, and then one a second",
+             loop(1, 128, 0, came(9_000 * S, "x", report("77{}"), "in")), came(9_000 * S, "x", report(5000), "dropped crowd"),
+             came(9_000 * S, "y", report(5000), "in"), came(9_001 * S, "x", report(5001), "dropped crowd"), came(9_002 * S, "x", report(5001), "in"),
+             came(9_002 * S, "x", report(5002), "dropped crowd"), came(9_002 * S, "y", report(5001), "dropped crowd")),
         case("a number that comes from elsewhere is as a new one",
              loop(1, 256, 0, came(9_000 * S, "x{}", report(7), "in")), came(9_000 * S, "y", report(7), "dropped crowd"), came(9_000 * S, "x256", report(7), "in")),
         case("64 questions of strangers at once, and then sixteen a second",
@@ -129,9 +133,8 @@ def drawops() -> List[Dict[str, Any]]:
         case("the time of day goes on, and can be set",
              ask(5 * S, WALL + 5 * S, time=True), {"now": 6 * S, "wall": WALL - DAY}, ask(8 * S, WALL - DAY + 2 * S, time=True),
              came(8 * S, "x", line(2), "dropped ahead")),
-        case("a drawop of ours that only we draw", met(), came(S, "b", line(1, 1), "in"), came(S, "b", line(1, 65_536), "in"),
-             came(S, "b", line(1, 65_537), "dropped own"), came(S, "b", line(1, 2**31 - 1), "in", top=2**31 - 2),
-             came(S, "b", line(1, 2**31), "dropped own", top=2**31 - 1)),
+        case("a drawop of ours that only we draw", met(), came(S, "b", line(1, 1), "in"), came(S, "b", line(1, 2), "dropped own", above=True),
+             came(S, "b", line(1, 2**31 - 1), "in"), came(S, "b", line(1, 2**31), "dropped own")),
     ]
 
 

@@ -14,6 +14,9 @@ MINUTE, DAY = 60 * SECOND, 86_400 * SECOND
 # Moments of our own reports that are remembered. An echo of one that is older than FRESH answers nobody. Of two clocks one may go faster by one part in DRIFT.
 OWN, FRESH, DRIFT = 256, 256 * SECOND, 4_096
 
+# the most origins of which the last report under our number is remembered that is not ours
+MOST_ALIENS = 8
+
 # An origin that answered us is known until it was silent for so long, and a number stays with its origin for so long.
 SILENCE, PATIENCE = 600 * SECOND, 192 * SECOND
 
@@ -33,6 +36,9 @@ RESERVE = 32
 # So many at once, and then one in each pause: numbers that are heard first, those that answer us, and requests and questions of origins that
 # are not known.
 MOST_NEW, MOST_ANSWERING, NEW_PAUSE = 256, 256, SECOND
+
+# above this no number more of an origin that has one, so that there is room for one that has none
+NEW_OF_ONE = 128
 MOST_ASKED, ASKED_PAUSE = 64, SECOND // 16
 
 # So many requests of members for what is held, each of which brings a repair; above REPAIRS_OF_ONE, not two in a row of one member.
@@ -44,7 +50,7 @@ FIRM_TIME, MOST_SHARING = 2 * SECOND, 31
 # A member that lacks LACKING numbers takes a stream, unless one began lately, or one of that member.
 LACKING, FETCH_PAUSE, FETCH_AGAIN = 500, 10 * SECOND, 60 * SECOND
 
-# A number of ours that is so far above what we hold is forged, and so is any from here on.
+# A mark of ours that is so far above what we hold is forged, and so is any number from here on.
 FORGED_ABOVE, FORGED_NUMBER = 65_536, 2**31
 
 # how far ahead of our time of day the time of a drawop may be
@@ -88,7 +94,8 @@ class Facts:
     held: int = 0  # drawops on all pages
     listens: bool = False
     holds: bool = False  # the drawop, or what the request asks for
-    top: int = 0  # the greatest number of ours that is held on the page of a report or a drawop
+    above: bool = False  # the number of a drawop is above all of ours on its page that are held or were heard of
+    top: int = 0  # the greatest number of ours that is held on the page of a report
     lacking: int = 0  # numbers up to the marks of a report that are not held
 
 
@@ -136,7 +143,7 @@ class Judge:
         self.known: Dict[Origin, int] = {}  # when something last came from there
         self.others: Dict[int, Other] = {}  # the one that was heard last at the end
         self.own: List[int] = []
-        self.alien: Optional[Tuple[int, int]] = None  # of the last report under our number that is not ours: its moment, and when it came
+        self.aliens: Dict[Origin, Tuple[int, int]] = {}  # of the last report under our number from there that is not ours: its moment, and when it came
         self.strange: Dict[Name, Origin] = {}  # what is held that no known origin gave
         self.new = Bucket(MOST_NEW, NEW_PAUSE)
         self.answering = Bucket(MOST_ANSWERING, NEW_PAUSE)
@@ -190,12 +197,18 @@ class Judge:
         other = self.others.get(number)
         return other is not None and other.origin != origin and other.answered is not None and now - other.at <= PATIENCE
 
+    def has_number(self, origin: Origin) -> bool:
+        return any(other.origin == origin for other in self.others.values())
+
+    def owner_of(self, number: int) -> Optional[str]:
+        """Who answered under a number owns it; who only claims it does not. Ours is ours."""
+        other = self.others.get(number)
+        return self.here if number == self.me else other.origin.owner if other is not None and other.answered is not None else None
+
     def is_forged(self, number: int, origin: Origin) -> bool:
-        """Whether a number is another owner's: it is theirs who spoke under it first, and ours is ours."""
-        if origin.owner is None:
-            return False
-        owner = self.here if number == self.me else self.others[number].origin.owner if number in self.others else None
-        return owner is not None and owner != origin.owner
+        """Whether a number is another owner's."""
+        owner = self.owner_of(number)
+        return None not in (owner, origin.owner) and owner != origin.owner
 
     def is_firm(self, name: Name, now: int) -> bool:
         """Whether nothing that others send of a name hushes us. Each has its turns; beside one other member all turns are its."""
@@ -232,26 +245,32 @@ class Judge:
         if self.is_forged(datagram.speaker, origin):
             return Verdict("speaks", "speaks %d" % datagram.speaker)
         if datagram.speaker == self.me:
-            return self.judge_own(datagram, facts.now)
+            return self.judge_own(origin, datagram, facts.now)
         if datagram.kind in ("session-message", "page-state"):
             return self.judge_report(origin, datagram, facts)
         return self.judge_question(origin, datagram, facts)
 
-    def judge_own(self, datagram: Datagram, now: int) -> Verdict:
+    def judge_own(self, origin: Origin, datagram: Datagram, now: int) -> Verdict:
         """Under our own number. If it is no report of ours and answers us, somebody is here who has our number too."""
         if datagram.kind == "session-message" and datagram.sent not in self.own:
-            self.alien = datagram.sent, now
+            self.put_alien(origin, datagram.sent, now)
             if self.answers(datagram, now) and not self.has_twin:
                 self.has_twin = True
                 return Verdict("own", "twin")
         return Verdict("own")
+
+    def put_alien(self, origin: Origin, sent: int, now: int) -> None:
+        """It is remembered if there is room beside those of other origins. So noise hides no twin."""
+        self.aliens = {each: alien for each, alien in self.aliens.items() if each != origin and now - alien[1] <= FRESH}
+        if len(self.aliens) < MOST_ALIENS:
+            self.aliens[origin] = sent, now
 
     def judge_report(self, origin: Origin, datagram: Datagram, facts: Facts) -> Verdict:
         is_answer, other = self.answers(datagram, facts.now), self.others.get(datagram.speaker)
         if not is_answer and self.is_bound_elsewhere(datagram.speaker, origin, facts.now):
             return Verdict("speaks")
         has_room = other is not None and (is_answer or other.origin == origin)
-        if not has_room and not (self.answering if is_answer else self.new).takes(facts.now):
+        if not has_room and not (self.answering if is_answer else self.new).takes(facts.now, NEW_OF_ONE if self.has_number(origin) else None):
             return Verdict("crowd")
         own = datagram.marks.get(self.me, 0)
         if facts.listens and own > facts.top + FORGED_ABOVE:
@@ -312,8 +331,8 @@ class Judge:
             return Verdict("again" if datagram.name is None or not self.hushes(origin, datagram.name, facts.now) else None)
         if self.is_forged_drawop(is_known, datagram, facts):
             return Verdict("own")
-        if not is_known and self.is_bound_elsewhere(datagram.speaker, origin, facts.now):
-            return Verdict("speaks")
+        if not is_known and origin.owner is None and self.is_bound_elsewhere(datagram.speaker, origin, facts.now):
+            return Verdict("speaks")  # where origins have owners it is a repair, as anybody may give one
         if datagram.time > self.time_of_day(facts.now) + (AHEAD_KNOWN if is_known else AHEAD_STRANGER):
             return Verdict("ahead")
         if self.is_full(facts.held) and (datagram.is_drawing or not is_known):
@@ -325,20 +344,21 @@ class Judge:
         return Verdict()
 
     def is_forged_drawop(self, is_known: bool, datagram: Datagram, facts: Facts) -> bool:
-        """Whether a drawop is not ours that has our number. One that we drew and a crash lost is: our numbers go on above it."""
+        """Whether a drawop that has our number is not ours, or raises our numbers, which marks alone do, while we listen. Then none of ours is
+        taken, so that all marks are measured by what our record has; later members give what it has lost."""
         if datagram.speaker != self.me or datagram.name is None:
             return False
-        number = datagram.name.number
-        return number >= FORGED_NUMBER or number > facts.top + FORGED_ABOVE or not (facts.listens or is_known)
+        return datagram.name.number >= FORGED_NUMBER or facts.above or facts.listens or not is_known
 
     # ---- what is sent
 
     def own_echo(self, now: int) -> Optional[Tuple[int, int]]:
-        """What a report of ours echoes besides, under our own number: the moment of the last report that was not ours, and how long ago it
-        came. Who has our number too hears by it that we have heard it."""
-        if self.alien is None or now - self.alien[1] > FRESH:
+        """What a report of ours echoes besides, under our own number: the moment of a report that was not ours, and how long ago it came. Who
+        has our number too hears by it that we have heard it. Each origin has its turns, by the last microseconds of our moment."""
+        if not self.aliens:
             return None
-        return self.alien[0], now - self.alien[1]
+        sent, at = list(self.aliens.values())[now % len(self.aliens)]
+        return None if now - at > FRESH else (sent, now - at)
 
     def fault_of_adding(self, is_drawing: bool, held: int) -> Optional[str]:
         """Why nothing can be drawn."""

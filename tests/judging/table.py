@@ -8,7 +8,7 @@ from typing import Any, Dict, Iterator
 from .reference import Facts, Judge
 from .words import datagram_of, name_of, origin_of
 
-FACTS = ("held", "listens", "holds", "top", "lacking")
+FACTS = ("held", "listens", "holds", "above", "top", "lacking")
 
 Step = Dict[str, Any]
 

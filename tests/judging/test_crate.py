@@ -14,7 +14,7 @@ from typing import Any, Dict
 import pytest
 
 from .cases import cases
-from .table import each_of
+from .table import FACTS, each_of
 
 TOP = Path(__file__).resolve().parents[2]
 CRATES = ["wb_judge", "wb_words", "wb_codec", "wb_names"]
@@ -60,8 +60,8 @@ class Spoken:
         """The kind of a step, its moment, and what it tells."""
         now = step["now"]
         if "came" in step:
-            facts = [int(step.get(fact, 0)) for fact in ("held", "listens", "holds", "top", "lacking")]
-            return "came %d %s %d %d %d %d %d | %s" % (now, self.origin(step["from"]), *facts, step["came"])
+            facts = [int(step.get(fact, 0)) for fact in FACTS]
+            return "came %d %s %d %d %d %d %d %d | %s" % (now, self.origin(step["from"]), *facts, step["came"])
         if "add" in step:
             return "add %d %d %d" % (now, step["add"] == "drawing", step.get("held", 0))
         if "wall" in step:

@@ -30,7 +30,7 @@ RULES = [
     Rule("a member's is a day ahead at most", "datagram.time > self.time_of_day(facts.now) +", "not is_known and datagram.time > self.time_of_day(facts.now) +", "a late clock sees what members draw"),
     Rule("no drawop sets the time of day", "    def judge_drawop(self, origin: Origin, datagram: Datagram, facts: Facts) -> Verdict:\n",
          "    def judge_drawop(self, origin: Origin, datagram: Datagram, facts: Facts) -> Verdict:\n        self.tell_time(facts.now, max(datagram.time, self.time_of_day(facts.now)))\n", "time is moved by nobody"),
-    Rule("a stranger draws under no member's number", "if not is_known and self.is_bound_elsewhere(", "if False and self.is_bound_elsewhere(", "time is moved by nobody"),
+    Rule("a stranger draws under no member's number", "origin.owner is None and self.is_bound_elsewhere(", "False and self.is_bound_elsewhere(", "time is moved by nobody"),
     # streams are for members alone
     Rule("no stream is taken of who has not answered", "if other.answered is None or facts.lacking", "if facts.lacking", "a stream is taken of members alone"),
     Rule("nor from where a forged report came", "if not is_answer and self.is_bound_elsewhere(", "if False and self.is_bound_elsewhere(", "a stream is taken of members alone"),
@@ -50,7 +50,9 @@ RULES = [
     Rule("a replay of an earlier start is no twin", "if self.answers(datagram, now) and not self.has_twin:", "if not self.has_twin:", "a replay is no twin"),
     Rule("nor is one of this start", "datagram.kind == \"session-message\" and datagram.sent not in self.own", "datagram.kind == \"session-message\"", "a replay is no twin"),
     Rule("nor who echoes an old moment", "ago <= FRESH and held", "held", "an old echo shows no twin"),
-    Rule("a twin is told of itself", "self.alien = datagram.sent, now\n", "pass\n", "twins see each other"),
+    Rule("a twin is told of itself", "            self.aliens[origin] = sent, now\n", "            pass\n", "twins see each other"),
+    Rule("also beside noise", "list(self.aliens.values())[now % len(self.aliens)]", "list(self.aliens.values())[-1]", "twins see each other beside noise"),
+    Rule("and nobody hides it", "        if len(self.aliens) < MOST_ALIENS:\n", "        if True:\n", "a ninth origin under our number pushes out no other"),
     Rule("who has one draws nothing", "        if self.has_twin:\n            return \"twin\"\n", "", "twins see each other"),
     # pages
     Rule("ours are listed first", "rank = 0 if name.source == self.me else 2", "rank = 2", "pages are not pushed out"),
@@ -65,15 +67,18 @@ RULES = [
     Rule("strangers' requests are few", "Verdict(None if self.asked.takes(facts.now) else \"flood\")", "Verdict()", "a request storm"),
     Rule("members' too", "        if not self.repairs.takes(now, REPAIRS_OF_ONE if origin == self.served else MOST_REPAIRS):\n            return False\n", "", "requests of one member that floods leave half to others"),
     Rule("and one member leaves half to the others", "REPAIRS_OF_ONE if origin == self.served else MOST_REPAIRS", "MOST_REPAIRS", "requests of one member that floods leave half to others"),
-    Rule("new numbers are few", "if not has_room and not (self.answering if is_answer else self.new).takes(facts.now)", "if not has_room and is_answer and not self.answering.takes(facts.now)", "crowds"),
+    Rule("new numbers are few", "if not has_room and not (self.answering if is_answer else self.new)", "if not has_room and is_answer and not self.answering", "crowds"),
+    Rule("there is room beside one that names many", "NEW_OF_ONE if self.has_number(origin) else None", "None", "a newcomer comes in beside one that names ever more numbers"),
     Rule("who answers finds room beside them", "(self.answering if is_answer else self.new)", "self.new", "who answers finds room"),
     # drawops under our own number
-    Rule("a drawop of ours that nobody drew is none", "return number >= FORGED_NUMBER or number > facts.top + FORGED_ABOVE or not (facts.listens or is_known)", "return False", "a liar stops nobody by drawops"),
-    Rule("what a crash lost comes back of a member", "or not (facts.listens or is_known)", "or not facts.listens", "what a crash lost of ours comes back"),
-    Rule("and of anybody while we listen", "or not (facts.listens or is_known)", "or not is_known", "what a crash lost of ours comes back"),
+    Rule("a drawop raises no number of ours", "or facts.above or", "or", "a liar stops nobody by drawops"),
+    Rule("what a crash lost comes back of a member", "or facts.listens or not is_known", "or facts.listens or is_known", "what a crash lost of ours comes back of a member, once we listen no more"),
+    Rule("but of nobody while we listen", "or facts.listens or not is_known", "or not is_known", "what a crash lost of ours comes back of a member, once we listen no more"),
     # names that a network keeps
-    Rule("a number is its owner's", "return owner is not None and owner != origin.owner", "return False", "names at a broker"),
-    Rule("ours is ours", "owner = self.here if number == self.me else", "owner = None if number == self.me else", "names at a broker"),
+    Rule("a number is its owner's", "return None not in (owner, origin.owner) and owner != origin.owner", "return False", "names at a broker"),
+    Rule("ours is ours", "return self.here if number == self.me else", "return None if number == self.me else", "names at a broker"),
+    Rule("who claims a number does not own it", "if other is not None and other.answered is not None else None", "if other is not None else None", "whoever claims a number at a broker keeps it from nobody"),
+    Rule("and drawops are repairs there", "not is_known and origin.owner is None and self", "not is_known and self", "no drawing is dropped at a broker since another owner answered under its number"),
     Rule("who has gone leaves its numbers", "for number, other in self.others.items() if other.origin != origin}", "for number, other in self.others.items()}", "a name that has gone leaves its numbers"),
 ]
 

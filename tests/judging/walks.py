@@ -46,7 +46,7 @@ class Walk:
         self.now += self.random.choice(PAUSES)
         what = self.random.randrange(20)
         if what < 15:
-            facts = {"held": self.random.choice([0, 0, 0, 61, 62]), "listens": self.now < 6 * S, "holds": self.random.random() < 0.2, "top": 8,
+            facts = {"held": self.random.choice([0, 0, 0, 61, 62]), "listens": self.now < 6 * S, "holds": self.random.random() < 0.2, "above": self.random.random() < 0.2, "top": 8,
                      "lacking": self.random.choice([0, 600])}
             return {"now": self.now, "from": self.random.choice(ORIGINS), "came": self.datagram(), **facts}
         if what < 17:

@@ -141,6 +141,17 @@ def check_malformed(facts: Facts, folder: Path) -> None:
         facts("no host can have %s" % board, refusal_of(path)[0], "%s: no host can have its board: %s" % (path, board))
 
 
+def check_refused(facts: Facts, folder: Path) -> None:
+    """A record with a line that no host takes, as a drawing of ours from 2^31 on, is none to draw on: its number would be used twice."""
+    path = folder / "refused.wb"
+    drawn = "draw 7 1/1 2147483648 5 line 0 0 4 0 o"
+    text = "board 7 100 1 42\nsay %s\n" % drawn
+    path.write_text(text)
+    told = "%s: no host takes a line of it (ours): say %s" % (path, drawn)
+    facts("what a host refuses ends the start", refused(["--ports", str(FIRST_PORT), "--record", str(path)], {}), (1, "wb-live: " + told))
+    facts("and the record stays as it is", path.read_text() == text, True)
+
+
 HEAD = b"# wb record 1\nboard 7 100 1 42\n"
 LINES = b"tick 5\nsay draw 7 1/1 1 1000 line 0 0 4 0 o\n"
 
@@ -343,7 +354,7 @@ def check_state(facts: Facts, folder: Path) -> None:
     facts("records are nobody else's to read", [path.stat().st_mode & 0o77 for path in (folder / "state").rglob("*.wb")], [0, 0])
 
 
-PARTS = [check_files, check_versions, check_malformed, check_torn, check_read, check_links, check_wish, check_folders, check_long, check_noise, check_full_disk, check_state]
+PARTS = [check_files, check_versions, check_malformed, check_refused, check_torn, check_read, check_links, check_wish, check_folders, check_long, check_noise, check_full_disk, check_state]
 
 
 @pytest.mark.parametrize("part", PARTS)

@@ -111,7 +111,9 @@ export class Board {
       if (fault !== null) throw new BoardFault(`no host can have this board: ${board} (${fault})`);
     }
     for (const line of lines) {
-      if (this.ask(host, `held ${line}`).said('drew').length) this.hold(drawopIn(line));
+      const block = this.ask(host, `held ${line}`);
+      if (block.fault !== null) throw new BoardFault(`no host takes a line of the record (${block.fault}): ${line.slice(0, 60)}`); // its number would be used twice
+      if (block.said('drew').length) this.hold(drawopIn(line));
       this.noteGiver(line);
     }
     this.host = host;

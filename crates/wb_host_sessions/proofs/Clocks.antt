@@ -4,6 +4,7 @@ use Rattle.std.specs.Prelude.{Contains, Option}
 use Rattle.wb_names.specs.declared.echo.Echo.{Echo}
 use Rattle.wb_names.proofs.Listings.{Contains-here, Contains-map, Contains-none}
 use Rattle.wb_codec.specs.declared.datagram.Datagram.{Datagram}
+use Rattle.wb_judge.specs.Aliens.{alien_at}
 use Rattle.wb_judge.specs.Adding.{own_echo}
 use Rattle.wb_judge.specs.Judge.{Judge}
 use Rattle.wb_judge.specs.declared.verdict.Why.{Why}
@@ -98,7 +99,7 @@ line_sent line h own taken v c =
     let j : Judge = judging line h in
     let echo = own_echo (moment_of line h) j in
     let said = sent_by_doing (doing_of (handed line h)) h.kept in
-    let mine : (e : Echo) → echo ≡ Some e → e.source ≡ h.kept.host.is.number = λ e is. echo_mine j.me (moment_of line h) j.alien e is ∙ me_judging line h ∙ own in
+    let mine : (e : Echo) → echo ≡ Some e → e.source ≡ h.kept.host.is.number = λ e is. echo_mine j.me (moment_of line h) (alien_at (moment_of line h) j.aliens) e is ∙ me_judging line h ∙ own in
     let again : plain (echoing echo v) ≡ v = plain_again h.kept.host.is.number echo mine v (call_sends (handed line h) h.kept (fault_none line h own taken) v c) in (
       echoing echo v,
       subst (λ (vs : List Datagram). Contains vs (echoing echo v)) (sym (sends_as_kept line h)) (Contains-map (echoing echo) said (echoing echo v) (c.0, v, c.1, c.2, refl)),

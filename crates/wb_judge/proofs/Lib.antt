@@ -18,3 +18,6 @@ pub mod MembersHeard
 pub mod MembersStay
 pub mod NumbersBeside
 pub mod Room
+pub mod Owners
+pub mod Newcomers
+pub mod Noise

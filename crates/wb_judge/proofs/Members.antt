@@ -16,7 +16,7 @@ use Rattle.wb_judge.specs.declared.facts.Facts.{Facts}
 use Rattle.wb_judge.specs.declared.known.KnownOrigin.{KnownOrigin}
 use Rattle.wb_judge.specs.Verdicts.{dropped, taken, warned}
 use Rattle.wb_names.specs.declared.name.TheConstants.{FIRST_FORGED}
-use Rattle.wb_judge.specs.declared.limits.TheConstants.{AHEAD_KNOWN, FORGED_ABOVE, MOST_KNOWN, SILENCE}
+use Rattle.wb_judge.specs.declared.limits.TheConstants.{AHEAD_KNOWN, MOST_KNOWN, SILENCE}
 use Rattle.wb_judge.specs.declared.origin.Origin.{Origin}
 use Rattle.wb_judge.specs.declared.verdict.Verdict.{Verdict}
 use Rattle.wb_judge.specs.declared.verdict.Warning.TheVariants.{NoCell}
@@ -88,7 +88,7 @@ only_answers_make_known o p v f j now e = by (outcome o v f (after_coming o f.at
 pub forged_no : (known : Bool) (d : DrawopValue) (f : Facts) (j : Judge) → ¬ (d.name.source ≡ j.me) → is_forged_drawop known d f j ≡ false
 unfolding is_forged_drawop
 forged_no known d f j other = by (nat_eq d.name.source j.me) refl where
-  by : (b : Bool) → nat_eq d.name.source j.me ≡ b → (b && (nat_le FIRST_FORGED d.name.seq || (nat_lt (f.top + FORGED_ABOVE) d.name.seq || not (f.listens || known)))) ≡ false
+  by : (b : Bool) → nat_eq d.name.source j.me ≡ b → (b && (nat_le FIRST_FORGED d.name.seq || (f.above || (f.listens || not known)))) ≡ false
   by true is = absurd (other (eqb-true d.name.source j.me is))
   by false is = refl
 

@@ -1,6 +1,6 @@
 -- What is dropped of a member.
 use Rattle.std.proofs.Common.{◌≡◌, ◌∙◌, ℕ, Bool, true, false, cond, None, ap, refl, sym, true≢false}
-use Rattle.std.specs.Prelude.{Option, Some, ◌&&◌, nat_eq, not}
+use Rattle.std.specs.Prelude.{None, Option, Some, ◌&&◌, is_some, nat_eq, not}
 use Rattle.std.proofs.lemmas.Bool.{and_parts, eq-eqb, eqb-true}
 use Rattle.wb_names.specs.Values.{NameValue}
 use Rattle.wb_codec.specs.declared.datagram.Datagram.TheVariants.{AskPages, Draw, PageState, Request, Session}
@@ -27,7 +27,14 @@ not_another (Some a) (Some b) e = ap not (eq-eqb b a (sym (eqb-true a b e)))
 
 owner_there : (o : Origin) (x : Option Other) → is_heard o false x ≡ true → is_another o.owner (owner_in x) ≡ false
 owner_there o None e = absurd (true≢false (sym e))
-owner_there o (Some x) e = not_another x.origin.owner o.owner (and_parts (nat_eq x.origin.place o.place) (same_owner x.origin.owner o.owner) e).1
+owner_there o (Some x) e = by (is_some x.answered) where
+  nobody : (a : Option ℕ) → is_another a None ≡ false
+  nobody None = refl
+  nobody (Some a) = refl
+
+  by : (b : Bool) → is_another o.owner (cond b x.origin.owner None) ≡ false
+  by true = not_another x.origin.owner o.owner (and_parts (nat_eq x.origin.place o.place) (same_owner x.origin.owner o.owner) e).1
+  by false = nobody o.owner
 
 not_own : (number : ℕ) (j : Judge) → ¬ (number ≡ j.me) → nat_eq number j.me ≡ false
 not_own number j other = by (nat_eq number j.me) refl where

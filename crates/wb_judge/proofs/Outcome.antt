@@ -5,6 +5,7 @@ use Rattle.std.specs.Prelude.{Option, None, Some, IfSome, nat_eq, ◌||◌}
 use Rattle.std.proofs.lemmas.Bool.{eqb-true}
 use Rattle.wb_codec.specs.declared.datagram.Datagram.{Datagram}
 use Rattle.wb_codec.specs.declared.datagram.Datagram.TheVariants.{AskPages, Draw, PageState, Request, Session}
+use Rattle.wb_judge.specs.Aliens.{with_alien}
 use Rattle.wb_judge.specs.Answers.{answers}
 use Rattle.wb_judge.specs.Buckets.{has_room, paid_after}
 use Rattle.wb_judge.specs.Judge.{Judge, is_forged, knows}
@@ -69,10 +70,10 @@ request : (o : Origin) (f : Facts) (j : Judge) → Same j (after_request o f j)
 unfolding after_held
 request o f j = either f.holds j (after_held o f.at j) j (either (knows o f.at j) j (after_repair o f.at j) (after_stranger f.at j) (repair o f.at j) (stranger f.at j)) (same j)
 
-owned : (sent : ℕ) (r : Report) (now : ℕ) (j : Judge) → Same j (after_own sent r now j)
+owned : (o : Origin) (sent : ℕ) (r : Report) (now : ℕ) (j : Judge) → Same j (after_own o sent r now j)
 unfolding after_own
-owned sent r now j =
-    either (list_any (nat_eq sent) j.own) j j (record j { alien = Some (record { sent = sent; at = now }); has_twin = j.has_twin || is_twin sent r now j }) (same j)
+owned o sent r now j =
+    either (list_any (nat_eq sent) j.own) j j (record j { aliens = with_alien (record { origin = o; sent = sent; at = now }) j.aliens; has_twin = j.has_twin || is_twin sent r now j }) (same j)
     (record { own = refl; known = refl; others = refl; strange = refl })
 
 fetching : (b : Bool) (now : ℕ) (j : Judge) → Same j (after_fetching b now j)
@@ -190,7 +191,7 @@ said o number n answer now j ours theirs s h = choice (is_forged number o j) o n
 -- a datagram leaves the lists as they were, or a number was heard
 pub outcome : (o : Origin) (v : Datagram) (f : Facts) (j : Judge) → Same j (after_of o v f j) ⊎ Heard o (speaker_in v) (is_answer v f.at j) f.at j (after_of o v f j)
 outcome o (Draw d) f j = inl (same j)
-outcome o (Session s sent page marks echoes) f j = let r = report_of j.me s marks echoes in said o s (Some s) _ f.at j _ _ (owned sent r f.at j) (reported o r f j)
+outcome o (Session s sent page marks echoes) f j = let r = report_of j.me s marks echoes in said o s (Some s) _ f.at j _ _ (owned o sent r f.at j) (reported o r f j)
 outcome o (PageState s page marks) f j = said o s (Some s) _ f.at j _ _ (same j) (reported o (report_of j.me s marks []) f j)
 outcome o (Request asker name) f j = said o asker None _ f.at j _ _ (same j) (inl (request o f j))
 outcome o (AskPages asker) f j = said o asker None _ f.at j _ _ (same j) (inl (question o f.at j))

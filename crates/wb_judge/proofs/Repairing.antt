@@ -6,6 +6,7 @@ use Rattle.std.specs.Prelude.{Some, ◌&&◌, ◌||◌, nat_eq, not}
 use Rattle.wb_names.specs.Values.{DrawopValue, NameValue}
 use Rattle.wb_codec.specs.declared.datagram.Datagram.{Datagram}
 use Rattle.wb_codec.specs.declared.datagram.Datagram.TheVariants.{AskPages, Draw, PageState, Request, Session}
+use Rattle.wb_judge.specs.Aliens.{with_alien}
 use Rattle.wb_judge.specs.Answers.{answers}
 use Rattle.wb_judge.specs.Buckets.{has_room, paid_after}
 use Rattle.wb_judge.specs.Judge.{Judge, after_taking, is_firm, is_forged, knows}
@@ -73,10 +74,10 @@ reported o r f j =
     either (is_elsewhere o r answer f.at j || not (is_admitted o r.speaker answer f.at j)) j j _ (itself j)
     (either (is_forged_mark r f) j k _ a (then a (hearing o r.speaker answer f.lacking f.at k)))
 
-owned : (sent : ℕ) (r : Report) (now : ℕ) (j : Judge) → Unpaid j (after_own sent r now j)
+owned : (o : Origin) (sent : ℕ) (r : Report) (now : ℕ) (j : Judge) → Unpaid j (after_own o sent r now j)
 unfolding after_own
-owned sent r now j =
-    either (list_any (nat_eq sent) j.own) j j (record j { alien = Some (record { sent = sent; at = now }); has_twin = j.has_twin || is_twin sent r now j }) (itself j)
+owned o sent r now j =
+    either (list_any (nat_eq sent) j.own) j j (record j { aliens = with_alien (record { origin = o; sent = sent; at = now }) j.aliens; has_twin = j.has_twin || is_twin sent r now j }) (itself j)
     (record { repairs = refl; asked = refl })
 
 said : (o : Origin) (number : ℕ) (j ours theirs : Judge) → Unpaid j ours → Unpaid j theirs → Unpaid j (after_said o number j ours theirs)
@@ -207,7 +208,7 @@ pub came_repairs : (o : Origin) (v : Datagram) (f : Facts) (j : Judge) → Moves
 came_repairs o (Draw d) f j = inl (refl, (taken_in o d f j).repairs)
 came_repairs o (Session s sent page marks echoes) f j =
     let i = after_coming o f.at j in let r = report_of j.me s marks echoes in
-    inl (refl, (said o s i (after_own sent r f.at i) (after_report o r f i) (owned sent r f.at i) (reported o r f i)).repairs)
+    inl (refl, (said o s i (after_own o sent r f.at i) (after_report o r f i) (owned o sent r f.at i) (reported o r f i)).repairs)
 came_repairs o (PageState s page marks) f j =
     let i = after_coming o f.at j in let r = report_of j.me s marks [] in
     inl (refl, (said o s i i (after_report o r f i) (itself i) (reported o r f i)).repairs)
@@ -227,7 +228,7 @@ came_asked : (o : Origin) (v : Datagram) (f : Facts) (j : Judge) → MovesAsked 
 came_asked o (Draw d) f j = inl (refl, (taken_in o d f j).asked)
 came_asked o (Session s sent page marks echoes) f j =
     let i = after_coming o f.at j in let r = report_of j.me s marks echoes in
-    inl (refl, (said o s i (after_own sent r f.at i) (after_report o r f i) (owned sent r f.at i) (reported o r f i)).asked)
+    inl (refl, (said o s i (after_own o sent r f.at i) (after_report o r f i) (owned o sent r f.at i) (reported o r f i)).asked)
 came_asked o (PageState s page marks) f j =
     let i = after_coming o f.at j in let r = report_of j.me s marks [] in
     inl (refl, (said o s i i (after_report o r f i) (itself i) (reported o r f i)).asked)

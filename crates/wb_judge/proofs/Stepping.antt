@@ -8,12 +8,11 @@ use Rattle.wb_names.specs.Values.{DrawopValue}
 use Rattle.wb_codec.specs.declared.datagram.Datagram.{Datagram}
 use Rattle.wb_codec.specs.declared.datagram.Datagram.TheVariants.{AskPages, Draw, PageState, Request, Session}
 use Rattle.wb_judge.specs.Judge.{Judge, after_leaving, after_taking, is_full, knows}
-use Rattle.wb_judge.specs.Judging.{after_coming, after_judging, draws, drawop_verdict, is_ahead, is_forged_drawop, verdict}
+use Rattle.wb_judge.specs.Judging.{after_coming, after_judging, drawop_verdict, draws, is_ahead, is_claimed, is_forged_drawop, verdict}
 use Rattle.wb_judge.specs.Known.{is_known, left}
 use Rattle.wb_judge.specs.Laws.{AreStrange, NeverAnswer, Step, StrangersHaveAShare, after_datagram, after_step, after_steps, answers_from, is_answer, is_taken, names_from, new_name, new_names, speaker_in}
 use Rattle.wb_judge.specs.Laws.{Comes, Leaves, Remembers, Reports, Tells}
 use Rattle.wb_judge.specs.Origins.{same_origin}
-use Rattle.wb_judge.specs.Others.{is_bound_elsewhere}
 use Rattle.wb_judge.specs.Strange.{has_name, is_given_by, is_over, is_wide, with_given}
 use Rattle.wb_judge.specs.Verdicts.{dropped, taken, warned}
 use Rattle.wb_judge.specs.declared.facts.Facts.{Facts}
@@ -92,9 +91,9 @@ let_in false false false false false shut wide e = refl
 room_for : (o : Origin) (d : DrawopValue) (f : Facts) (j : Judge) → knows o f.at j ≡ false → f.holds ≡ false → (drawop_verdict o d f j).why ≡ None → length j.strange.given < j.strange.most
 unfolding drawop_verdict is_over is_forged_drawop
 room_for o d f j unknown new why =
-    let over = let_in (is_forged_drawop false d f j) (is_bound_elsewhere d.name.source o f.at j.others) (is_ahead false d.time f.at j) (is_full f.held j && (draws d.op || true)) (is_over o j.strange) (nat_lt 0 j.strange.most) (is_wide d.name j.strange) (ruled why) in
+    let over = let_in (is_forged_drawop false d f j) (is_claimed o d.name.source f.at j) (is_ahead false d.time f.at j) (is_full f.held j && (draws d.op || true)) (is_over o j.strange) (nat_lt 0 j.strange.most) (is_wide d.name j.strange) (ruled why) in
     leb-false j.strange.most (length j.strange.given) (or_parts (nat_le j.strange.most (length j.strange.given)) (nat_le j.strange.most_of_origin (count_by (is_given_by o) j.strange.given)) over).0 where
-      ruled : (drawop_verdict o d f j).why ≡ None → (cond (is_forged_drawop false d f j) (dropped Own) (cond (is_bound_elsewhere d.name.source o f.at j.others) (dropped Speaks) (cond (is_ahead false d.time f.at j) (dropped Ahead) (cond (is_full f.held j && (draws d.op || true)) (warned Full NoCell) (cond (is_over o j.strange) (cond (nat_lt 0 j.strange.most) (warned Share NoShare) (dropped Share)) (cond (is_wide d.name j.strange) (dropped Pages) taken)))))).why ≡ None
+      ruled : (drawop_verdict o d f j).why ≡ None → (cond (is_forged_drawop false d f j) (dropped Own) (cond (is_claimed o d.name.source f.at j) (dropped Speaks) (cond (is_ahead false d.time f.at j) (dropped Ahead) (cond (is_full f.held j && (draws d.op || true)) (warned Full NoCell) (cond (is_over o j.strange) (cond (nat_lt 0 j.strange.most) (warned Share NoShare) (dropped Share)) (cond (is_wide d.name j.strange) (dropped Pages) taken)))))).why ≡ None
       ruled e = rw (new, unknown) at e
 
 pub none_of : {X : Type 0} (o : Option X) → is_none o ≡ true → o ≡ None

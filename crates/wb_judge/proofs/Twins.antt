@@ -3,6 +3,7 @@ use Rattle.std.proofs.Common.{◌≡◌, ◌∙◌, ℕ, Bool, true, false, cond
 use Rattle.std.specs.List.{list_any}
 use Rattle.std.specs.Prelude.{Some, ◌&&◌, ◌||◌, nat_eq, not}
 use Rattle.wb_codec.specs.declared.datagram.Datagram.TheVariants.{AskPages, Draw, PageState, Request, Session}
+use Rattle.wb_judge.specs.Aliens.{with_alien}
 use Rattle.wb_judge.specs.Answers.{answers}
 use Rattle.wb_judge.specs.Buckets.{has_room, paid_after}
 use Rattle.wb_judge.specs.Judge.{Judge, is_forged, knows}
@@ -68,10 +69,10 @@ unfolding after_held
 request o f j =
     either f.holds j.has_twin (after_held o f.at j) j (either (knows o f.at j) j.has_twin (after_repair o f.at j) (after_stranger f.at j) (repair o f.at j) (stranger f.at j)) refl
 
-owned : (sent : ℕ) (r : Report) (now : ℕ) (j : Judge) → answers j.own r.echo now ≡ false → (after_own sent r now j).has_twin ≡ j.has_twin
+owned : (o : Origin) (sent : ℕ) (r : Report) (now : ℕ) (j : Judge) → answers j.own r.echo now ≡ false → (after_own o sent r now j).has_twin ≡ j.has_twin
 unfolding after_own
-owned sent r now j silent =
-    either (list_any (nat_eq sent) j.own) j.has_twin j (record j { alien = Some (record { sent = sent; at = now }); has_twin = j.has_twin || is_twin sent r now j }) refl
+owned o sent r now j silent =
+    either (list_any (nat_eq sent) j.own) j.has_twin j (record j { aliens = with_alien (record { origin = o; sent = sent; at = now }) j.aliens; has_twin = j.has_twin || is_twin sent r now j }) refl
     (ap (λ b. j.has_twin || (not (list_any (nat_eq sent) j.own) && b)) silent ∙ none j.has_twin (not (list_any (nat_eq sent) j.own))) where
       none : (a b : Bool) → (a || (b && false)) ≡ a
       none true b = refl
@@ -85,7 +86,7 @@ pub replay_is_no_twin : ReplayIsNoTwin
 replay_is_no_twin o (Draw d) f j silent = refl
 replay_is_no_twin o (Session s sent page marks echoes) f j silent =
     let i = after_coming o f.at j in let r = report_of j.me s marks echoes in
-    said o s i (after_own sent r f.at i) (after_report o r f i) (owned sent r f.at i silent) (reported o r f i)
+    said o s i (after_own o sent r f.at i) (after_report o r f i) (owned o sent r f.at i silent) (reported o r f i)
 replay_is_no_twin o (PageState s page marks) f j silent =
     let i = after_coming o f.at j in let r = report_of j.me s marks [] in said o s i i (after_report o r f i) refl (reported o r f i)
 replay_is_no_twin o (Request asker name) f j silent = let i = after_coming o f.at j in said o asker i i (after_request o f i) refl (request o f i)
@@ -97,9 +98,9 @@ chosen : (b : Bool) (i j k : Judge) → j.others ≡ i.others → k.others ≡ i
 chosen true i j k one other = one
 chosen false i j k one other = other
 
-pub own_others : (sent : ℕ) (r : Report) (now : ℕ) (j : Judge) → (after_own sent r now j).others ≡ j.others
+pub own_others : (o : Origin) (sent : ℕ) (r : Report) (now : ℕ) (j : Judge) → (after_own o sent r now j).others ≡ j.others
 unfolding after_own
-own_others sent r now j = chosen (list_any (nat_eq sent) j.own) j j (record j { alien = Some (record { sent = sent; at = now }); has_twin = j.has_twin || is_twin sent r now j }) refl refl
+own_others o sent r now j = chosen (list_any (nat_eq sent) j.own) j j (record j { aliens = with_alien (record { origin = o; sent = sent; at = now }) j.aliens; has_twin = j.has_twin || is_twin sent r now j }) refl refl
 
 elsewhere : (o : Origin) (r : Report) (f : Facts) (j : Judge) → is_bound_elsewhere r.speaker o f.at j.others ≡ true → answers j.own r.echo f.at ≡ false → (after_report o r f j).others ≡ j.others
 unfolding after_report is_elsewhere
@@ -111,7 +112,7 @@ bound_by o s number now j same bound = let e : s ≡ number = cc in ap (λ n. is
 pub numbers_stay : NumbersStay
 numbers_stay o number (Session s sent page marks echoes) f j speaks bound silent =
     let i = after_coming o f.at j in let r = report_of j.me s marks echoes in
-    chosen (is_forged s o i) i i _ refl (chosen (nat_eq s j.me) i (after_own sent r f.at i) (after_report o r f i) (own_others sent r f.at i) (elsewhere o r f i (bound_by o s number f.at j speaks bound) silent))
+    chosen (is_forged s o i) i i _ refl (chosen (nat_eq s j.me) i (after_own o sent r f.at i) (after_report o r f i) (own_others o sent r f.at i) (elsewhere o r f i (bound_by o s number f.at j speaks bound) silent))
 numbers_stay o number (PageState s page marks) f j speaks bound silent =
     let i = after_coming o f.at j in let r = report_of j.me s marks [] in
     chosen (is_forged s o i) i i _ refl (chosen (nat_eq s j.me) i i (after_report o r f i) refl (elsewhere o r f i (bound_by o s number f.at j speaks bound) silent))

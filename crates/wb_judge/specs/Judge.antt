@@ -1,5 +1,5 @@
 -- What a judge remembers.
-use Rattle.std.specs.Prelude.{ℕ, ◌-◌, ◌/◌, Bool, false, not, ◌&&◌, List, [], Option, Some, None, nat_eq, nat_le, if◌then◌else◌}
+use Rattle.std.specs.Prelude.{ℕ, ◌-◌, ◌/◌, Bool, false, not, ◌&&◌, List, [], Option, Some, None, is_some, nat_eq, nat_le, if◌then◌else◌}
 use Rattle.wb_names.specs.Values.{NameValue}
 use Rattle.wb_judge.specs.Firm.{is_firm_beside, present}
 use Rattle.wb_judge.specs.Known.{is_known, left}
@@ -7,7 +7,7 @@ use Rattle.wb_judge.specs.Others.{gone_from, other_of}
 use Rattle.wb_judge.specs.Shares.{Shares}
 use Rattle.wb_judge.specs.Strange.{no_shares, with_given}
 use Rattle.wb_judge.specs.Days.{DayClock}
-use Rattle.wb_judge.specs.declared.judge.Alien.{Alien}
+use Rattle.wb_judge.specs.declared.aliens.Alien.{Alien}
 use Rattle.wb_judge.specs.declared.known.KnownOrigin.{KnownOrigin}
 use Rattle.wb_judge.specs.declared.limits.TheConstants.{RESERVE}
 use Rattle.wb_judge.specs.declared.origin.Origin.{Origin}
@@ -15,7 +15,7 @@ use Rattle.wb_judge.specs.declared.others.Other.{Other}
 use Rattle.wb_judge.specs.declared.strange.Given.{Given}
 
 -- Our number, the cells of our board and the owner of our own origin; the time of day; the moments of our reports; the origins that are known, the
--- numbers that were heard, and what is held of strangers; the last report under our number that is not ours; up to which moments new numbers,
+-- numbers that were heard, and what is held of strangers; the last reports under our number that are not ours; up to which moments new numbers,
 -- new numbers that answer, questions of strangers and repairs for members are paid for, and for which of these the last one was; before which
 -- moment no stream begins; and whether somebody has our number too.
 pub record Judge : Type 0 where
@@ -27,7 +27,7 @@ pub record Judge : Type 0 where
   pub known : List KnownOrigin
   pub others : List Other
   pub strange : Shares
-  pub alien : Option Alien
+  pub aliens : List Alien
   pub hearing : ℕ
   pub answering : ℕ
   pub asked : ℕ
@@ -46,7 +46,7 @@ opened me cells now wall here strangers = record {
   known = [];
   others = [];
   strange = no_shares cells strangers;
-  alien = None;
+  aliens = [];
   hearing = 0;
   answering = 0;
   asked = 0;
@@ -69,10 +69,10 @@ is_firm name now j = is_firm_beside (present now j.others) j.me name now
 abbrev pub hushes : Origin → NameValue → ℕ → Judge → Bool
 hushes o name now j = knows o now j && not (is_firm name now j)
 
--- who owns where a number speaks from
+-- who owns where a number has answered from: who only claims a number does not own it
 abbrev pub owner_in : Option Other → Option ℕ
 owner_in None = None
-owner_in (Some x) = x.origin.owner
+owner_in (Some x) = if is_some x.answered then x.origin.owner else None
 
 abbrev pub owner_of : ℕ → Judge → Option ℕ
 owner_of number j = if nat_eq number j.me then j.here else owner_in (other_of number j.others)
@@ -82,7 +82,7 @@ is_another (Some owner) (Some other) = not (nat_eq owner other)
 is_another (Some owner) None = false
 is_another None other = false
 
--- A number is theirs who spoke under it first, and ours is ours, if the network keeps origins.
+-- A number is theirs who answered under it first, and ours is ours, if the network keeps origins.
 abbrev pub is_forged : ℕ → Origin → Judge → Bool
 is_forged number o j = is_another o.owner (owner_of number j)
 

@@ -1,5 +1,5 @@
 -- What becomes of a datagram, and of the judge.
-use Rattle.std.specs.Prelude.{ℕ, ◌+◌, ◌-◌, Bool, true, false, not, ◌&&◌, ◌||◌, [], Option, Some, None, is_some, nat_eq, nat_le, nat_lt, if◌then◌else◌}
+use Rattle.std.specs.Prelude.{ℕ, ◌+◌, ◌-◌, Bool, true, false, not, ◌&&◌, ◌||◌, List, [], Option, Some, None, is_none, is_some, nat_eq, nat_le, nat_lt, if◌then◌else◌}
 use Rattle.std.specs.List.{list_any}
 use Rattle.wb_names.specs.Values.{DrawopValue, NameValue}
 use Rattle.wb_names.specs.declared.name.TheConstants.{FIRST_FORGED}
@@ -7,18 +7,19 @@ use Rattle.wb_names.specs.declared.parts.Op.{Op}
 use Rattle.wb_names.specs.declared.parts.Op.TheVariants.{Aimed, Drawn, Text}
 use Rattle.wb_codec.specs.declared.datagram.Datagram.{Datagram}
 use Rattle.wb_codec.specs.declared.datagram.Datagram.TheVariants.{AskPages, Draw, PageState, Request, Session}
+use Rattle.wb_judge.specs.Aliens.{with_alien}
 use Rattle.wb_judge.specs.Answers.{answers}
 use Rattle.wb_judge.specs.Buckets.{has_room, paid_after}
 use Rattle.wb_judge.specs.Days.{time_of_day}
 use Rattle.wb_judge.specs.Judge.{Judge, hushes, is_forged, is_full, knows}
 use Rattle.wb_judge.specs.Known.{known_from, renewed}
 use Rattle.wb_judge.specs.Origins.{same_origin}
-use Rattle.wb_judge.specs.Others.{is_bound_elsewhere, other_of, other_with, spoken}
+use Rattle.wb_judge.specs.Others.{has_speaker, is_bound_elsewhere, other_of, other_with, spoken}
 use Rattle.wb_judge.specs.Reports.{report_of}
 use Rattle.wb_judge.specs.Strange.{is_over, is_there, is_wide, without_origin}
 use Rattle.wb_judge.specs.Verdicts.{dropped, taken, warned}
 use Rattle.wb_judge.specs.declared.facts.Facts.{Facts}
-use Rattle.wb_judge.specs.declared.limits.TheConstants.{AHEAD_KNOWN, AHEAD_STRANGER, ASKED_AHEAD, ASKED_PAUSE, FETCH_AGAIN, FETCH_PAUSE, FORGED_ABOVE, LACKING, NEW_AHEAD, NEW_PAUSE, REPAIRS_AHEAD, REPAIRS_OF_ONE, REPAIR_PAUSE}
+use Rattle.wb_judge.specs.declared.limits.TheConstants.{AHEAD_KNOWN, AHEAD_STRANGER, ASKED_AHEAD, ASKED_PAUSE, FETCH_AGAIN, FETCH_PAUSE, FORGED_ABOVE, LACKING, NEW_AHEAD, NEW_OF_ONE, NEW_PAUSE, REPAIRS_AHEAD, REPAIRS_OF_ONE, REPAIR_PAUSE}
 use Rattle.wb_judge.specs.declared.origin.Origin.{Origin}
 use Rattle.wb_judge.specs.declared.others.Other.{Other}
 use Rattle.wb_judge.specs.declared.report.Report.{Report}
@@ -35,9 +36,9 @@ draws (Drawn figure stroke) = true
 draws (Text x y text) = true
 draws (Aimed change target) = false
 
--- A drawop with our number is forged, unless we may have drawn it before a crash: our numbers go on above it.
+-- A drawop with our number is forged, unless a member gives what we lost: marks alone raise our numbers, and no drawop of ours is taken while they may.
 unfoldable pub is_forged_drawop : Bool → DrawopValue → Facts → Judge → Bool
-is_forged_drawop known d f j = nat_eq d.name.source j.me && (nat_le FIRST_FORGED d.name.seq || (nat_lt (f.top + FORGED_ABOVE) d.name.seq || not (f.listens || known)))
+is_forged_drawop known d f j = nat_eq d.name.source j.me && (nat_le FIRST_FORGED d.name.seq || (f.above || (f.listens || not known)))
 
 abbrev pub ahead_of : Bool → ℕ
 ahead_of known = if known then AHEAD_KNOWN else AHEAD_STRANGER
@@ -45,11 +46,15 @@ ahead_of known = if known then AHEAD_KNOWN else AHEAD_STRANGER
 unfoldable pub is_ahead : Bool → ℕ → ℕ → Judge → Bool
 is_ahead known time now j = nat_lt (time_of_day j.clock now + ahead_of known) time
 
+-- A stranger's drawop is under the number of a member elsewhere. Where origins have owners that is a repair, as anybody may give one.
+abbrev pub is_claimed : Origin → ℕ → ℕ → Judge → Bool
+is_claimed o number now j = is_none o.owner && is_bound_elsewhere number o now j.others
+
 unfoldable pub drawop_verdict : Origin → DrawopValue → Facts → Judge → Verdict
 drawop_verdict o d f j = let known = knows o f.at j in
     if f.holds then (if hushes o d.name f.at j then taken else dropped Again)
     else if is_forged_drawop known d f j then dropped Own
-    else if not known && is_bound_elsewhere d.name.source o f.at j.others then dropped Speaks
+    else if not known && is_claimed o d.name.source f.at j then dropped Speaks
     else if is_ahead known d.time f.at j then dropped Ahead
     else if is_full f.held j && (draws d.op || not known) then warned Full NoCell
     else if not known && is_over o j.strange then (if nat_lt 0 j.strange.most then warned Share NoShare else dropped Share)
@@ -113,8 +118,12 @@ is_heard o answer (Some x) = answer || same_origin x.origin o
 abbrev pub paid_for : Bool → Judge → ℕ
 paid_for answer j = if answer then j.answering else j.hearing
 
+-- The second half of those at once is kept for origins that have no number.
+abbrev pub new_ahead : Origin → List Other → ℕ
+new_ahead o others = if has_speaker o others then NEW_OF_ONE else NEW_AHEAD
+
 unfoldable pub is_admitted : Origin → ℕ → Bool → ℕ → Judge → Bool
-is_admitted o number answer now j = is_heard o answer (other_of number j.others) || has_room NEW_AHEAD (paid_for answer j) now
+is_admitted o number answer now j = is_heard o answer (other_of number j.others) || has_room (new_ahead o j.others) (paid_for answer j) now
 
 abbrev pub with_payment : Bool → ℕ → Judge → Judge
 with_payment answer paid j = if answer then record j { answering = paid } else record j { hearing = paid }
@@ -205,10 +214,10 @@ is_twin sent r now j = not (list_any (nat_eq sent) j.own) && answers j.own r.ech
 unfoldable pub own_verdict : ℕ → Report → ℕ → Judge → Verdict
 own_verdict sent r now j = if is_twin sent r now j && not j.has_twin then warned Own Twin else dropped Own
 
-unfoldable pub after_own : ℕ → Report → ℕ → Judge → Judge
-after_own sent r now j =
+unfoldable pub after_own : Origin → ℕ → Report → ℕ → Judge → Judge
+after_own o sent r now j =
     if list_any (nat_eq sent) j.own then j
-    else record j { alien = Some (record { sent = sent; at = now }); has_twin = j.has_twin || is_twin sent r now j }
+    else record j { aliens = with_alien (record { origin = o; sent = sent; at = now }) j.aliens; has_twin = j.has_twin || is_twin sent r now j }
 
 -- ---- any datagram
 
@@ -231,7 +240,7 @@ verdict_of o (AskPages asker) f j = said_verdict o asker j (dropped Own) (questi
 abbrev pub after_of : Origin → Datagram → Facts → Judge → Judge
 after_of o (Draw d) f j = j
 after_of o (Session s sent page marks echoes) f j =
-    let r = report_of j.me s marks echoes in after_said o s j (after_own sent r f.at j) (after_report o r f j)
+    let r = report_of j.me s marks echoes in after_said o s j (after_own o sent r f.at j) (after_report o r f j)
 after_of o (PageState s page marks) f j = after_said o s j j (after_report o (report_of j.me s marks []) f j)
 after_of o (Request asker name) f j = after_said o asker j j (after_request o f j)
 after_of o (AskPages asker) f j = after_said o asker j j (after_question o f.at j)

@@ -1,24 +1,27 @@
 -- What follows of the judgement, whatever comes in.
-use Rattle.std.specs.Prelude.{◌≡◌, ◌⊎◌, ℕ, ◌+◌, ◌-◌, ◌*◌, ◌≤◌, ◌<◌, Bool, true, false, not, ◌&&◌, List, [], ◌∷◌, ◌++◌, Option, Some, None, AllPairs, filter, is_none, is_some, length, if◌then◌else◌}
+use Rattle.std.specs.Prelude.{◌≡◌, ◌⊎◌, ℕ, ◌+◌, ◌-◌, ◌*◌, ◌≤◌, ◌<◌, Bool, true, false, not, ◌&&◌, List, [], ◌∷◌, ◌++◌, Option, Some, None, AllPairs, filter, is_none, is_some, length, nat_eq, if◌then◌else◌}
 use Rattle.wb_names.specs.Orders.{same_name}
 use Rattle.wb_names.specs.Values.{DrawopValue, NameValue}
 use Rattle.wb_names.specs.declared.echo.Echo.{Echo}
 use Rattle.wb_codec.specs.declared.datagram.Datagram.{Datagram}
 use Rattle.wb_codec.specs.declared.datagram.Datagram.TheVariants.{AskPages, Draw, PageState, Request, Session}
+use Rattle.wb_judge.specs.Aliens.{beside, with_alien}
 use Rattle.wb_judge.specs.Answers.{answers, reported}
 use Rattle.wb_judge.specs.Buckets.{has_room, paid_after}
 use Rattle.wb_judge.specs.Days.{DayClock, time_of_day}
 use Rattle.wb_judge.specs.Firm.{is_firm_beside, turn_at, turns}
-use Rattle.wb_judge.specs.Judge.{Judge, after_leaving, after_taking, is_firm, is_full, knows}
-use Rattle.wb_judge.specs.Judging.{after_judging, draws, verdict}
-use Rattle.wb_judge.specs.Others.{is_bound_elsewhere}
+use Rattle.wb_judge.specs.Judge.{Judge, after_leaving, after_taking, is_another, is_firm, is_forged, is_full, knows, owner_in}
+use Rattle.wb_judge.specs.Judging.{after_admitting, after_judging, draws, is_admitted, is_heard, verdict}
+use Rattle.wb_judge.specs.Others.{has_speaker, is_bound_elsewhere, other_of}
 use Rattle.wb_judge.specs.Reports.{echo_to}
 use Rattle.wb_judge.specs.Strange.{has_name, is_given_by, is_there, with_given}
+use Rattle.wb_judge.specs.declared.aliens.Alien.{Alien}
 use Rattle.wb_judge.specs.declared.facts.Facts.{Facts}
-use Rattle.wb_judge.specs.declared.limits.TheConstants.{AHEAD_KNOWN, ASKED_AHEAD, ASKED_PAUSE, MOST_KNOWN, MOST_OTHERS, MOST_OWN, REPAIRS_AHEAD, REPAIRS_OF_ONE, REPAIR_PAUSE}
+use Rattle.wb_judge.specs.declared.limits.TheConstants.{AHEAD_KNOWN, ASKED_AHEAD, ASKED_PAUSE, MOST_ALIENS, MOST_KNOWN, MOST_OTHERS, MOST_OWN, REPAIRS_AHEAD, REPAIRS_OF_ONE, REPAIR_PAUSE}
 use Rattle.wb_judge.specs.declared.origin.Origin.{Origin}
+use Rattle.wb_judge.specs.declared.others.Other.{Other}
 use Rattle.wb_judge.specs.declared.strange.Given.{Given}
-use Rattle.wb_judge.specs.declared.verdict.Why.TheVariants.{Again}
+use Rattle.wb_judge.specs.declared.verdict.Why.TheVariants.{Again, Speaks}
 
 -- ---- members
 
@@ -52,9 +55,30 @@ abbrev pub NumbersStay : Type 0
 NumbersStay = (o : Origin) (number : ℕ) (v : Datagram) (f : Facts) (j : Judge) → speaker_in v ≡ Some number
     → is_bound_elsewhere number o f.at j.others ≡ true → is_answer v f.at j ≡ false → (after_judging o v f j).others ≡ j.others
 
+-- who says by its own word that it speaks
+abbrev pub claimant_of : Datagram → Option ℕ
+claimant_of (Draw d) = None
+claimant_of (Session s sent page marks echoes) = Some s
+claimant_of (Request asker name) = Some asker
+claimant_of (AskPages asker) = Some asker
+claimant_of (PageState s page marks) = Some s
+
+-- Whoever answers keeps its number: what another owner says under it is dropped, also an answer, and moves no number.
+abbrev pub OwnersStay : Type 0
+OwnersStay = (o : Origin) (number : ℕ) (v : Datagram) (f : Facts) (j : Judge) → claimant_of v ≡ Some number → nat_eq number j.me ≡ false
+    → is_another o.owner (owner_in (other_of number j.others)) ≡ true → ((verdict o v f j).why ≡ Some Speaks) × ((after_judging o v f j).others ≡ j.others)
+
+-- And a number is nobody's that was only claimed: whoever owns it may answer.
+abbrev pub ClaimsBindNobody : Type 0
+ClaimsBindNobody = (o : Origin) (number : ℕ) (x : Other) (j : Judge) → nat_eq number j.me ≡ false → other_of number j.others ≡ Some x → is_none x.answered ≡ true → is_forged number o j ≡ false
+
 -- A datagram that answers nobody, as a replay, shows no twin.
 abbrev pub ReplayIsNoTwin : Type 0
 ReplayIsNoTwin = (o : Origin) (v : Datagram) (f : Facts) (j : Judge) → is_answer v f.at j ≡ false → (after_judging o v f j).has_twin ≡ j.has_twin
+
+-- A report under our number pushes out none of another origin, and eight at most are remembered.
+abbrev pub AliensStay : Type 0
+AliensStay = (a : Alien) (aliens : List Alien) → (filter (beside a) (with_alien a aliens) ≡ filter (beside a) aliens) × (length aliens ≤ MOST_ALIENS → length (with_alien a aliens) ≤ MOST_ALIENS)
 
 -- ---- strangers
 
@@ -187,6 +211,11 @@ StrangersAreFew = (start end : ℕ) (steps : List Step) (j : Judge) → AreFrom 
 abbrev pub RepairsAreShared : Type 0
 RepairsAreShared = (o : Origin) (asker : ℕ) (name : NameValue) (f : Facts) (j : Judge) → f.holds ≡ true → knows o f.at j ≡ true
     → is_there o j.served ≡ true → (verdict o (Request asker name) f j).why ≡ None → has_room REPAIRS_OF_ONE j.repairs f.at ≡ true
+
+-- A number that is new is admitted of an origin that has one only if there is room, after it, for one of an origin that has none.
+abbrev pub NewcomersHaveRoom : Type 0
+NewcomersHaveRoom = (o p : Origin) (number other : ℕ) (answer : Bool) (now : ℕ) (j : Judge) → is_heard o answer (other_of number j.others) ≡ false → has_speaker o j.others ≡ true
+    → is_admitted o number answer now j ≡ true → has_speaker p j.others ≡ false → is_admitted p other answer now (after_admitting o number answer now j) ≡ true
 
 -- ---- all that is remembered is bounded
 pub record IsBounded (j : Judge) : Type 0 where

@@ -10,6 +10,7 @@ pub mod Strange
 pub mod Holding
 pub mod Verdicts
 pub mod Reports
+pub mod Aliens
 pub mod Days
 pub mod Judge
 pub mod Judging

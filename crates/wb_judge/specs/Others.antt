@@ -1,6 +1,6 @@
 -- The numbers that were heard, and from where.
 use Rattle.std.specs.Prelude.{ℕ, ◌-◌, Bool, false, not, ◌&&◌, List, [], ◌∷◌, ◌++◌, Option, Some, None, filter, is_none, is_some, length, nat_eq, nat_le, nat_lt, position, unwrap_or, if◌then◌else◌}
-use Rattle.std.specs.List.{find, remove}
+use Rattle.std.specs.List.{find, list_any, remove}
 use Rattle.wb_judge.specs.Origins.{same_origin}
 use Rattle.wb_judge.specs.declared.limits.TheConstants.{MOST_OTHERS, PATIENCE}
 use Rattle.wb_judge.specs.declared.origin.Origin.{Origin}
@@ -8,6 +8,10 @@ use Rattle.wb_judge.specs.declared.others.Other.{Other}
 
 abbrev pub other_of : ℕ → List Other → Option Other
 other_of number others = find (λ x. nat_eq x.number number) others
+
+-- some number speaks from there
+abbrev pub has_speaker : Origin → List Other → Bool
+has_speaker o others = list_any (λ x. same_origin x.origin o) others
 
 -- it has answered us, and speaks from another origin
 abbrev pub is_elsewhere : Origin → ℕ → Option Other → Bool

@@ -12,7 +12,10 @@ pub struct Facts {
     pub listens: bool,
     /// Whether it holds the drawop that came, or what a request asks for.
     pub holds: bool,
-    /// The greatest number of ours that it holds on the page of a report or a drawop, or 0.
+    /// Whether the drawop that came has a number above all of ours on its page that are held or were
+    /// heard of.
+    pub above: bool,
+    /// The greatest number of ours that it holds on the page of a report, or 0.
     pub top: u32,
     /// How many numbers up to the marks of a report it does not hold.
     pub lacking: u64,

@@ -5,17 +5,18 @@ ghost use Rattle.wb_names.specs.Moments.{IsMoment};
 ghost use Rattle.wb_judge.specs.Adding.{adding_fault, own_echo};
 ghost use Rattle.wb_judge.specs.Answers.{reported};
 ghost use Rattle.wb_judge.specs.Days.{time_of_day};
-ghost use Rattle.wb_judge.specs.Judge.{after_leaving, after_taking, is_another, is_forged, is_full, knows, opened, owner_of};
+ghost use Rattle.wb_judge.specs.Judge.{after_leaving, after_taking, is_another, is_forged, is_full, knows, opened, owner_in, owner_of};
 ghost use Rattle.wb_judge.specs.Pages.{rank_of};
 ghost use Rattle.wb_judge.specs.Strange.{with_given, without_name};
 ghost use Rattle.wb_judge.specs.declared.limits.TheConstants.{TIME_LIMIT};
 
+use crate::aliens::Aliens;
 use crate::bucket::Bucket;
 use crate::day_clock::DayClock;
 use crate::known::Known;
 use crate::limits::{FRESH, RESERVE};
 use crate::origin::Origin;
-use crate::others::Others;
+use crate::others::{Other, Others};
 use crate::own_reports::OwnReports;
 use crate::pages::{Rank, rank_of};
 use crate::strange::{Given, Strange};
@@ -28,13 +29,6 @@ mod hushing;
 mod judging;
 mod questions;
 mod reports;
-
-/// The last report under our number that is not ours: its moment, and the moment at which it came.
-#[derive(Clone, Copy, Debug)]
-pub struct Alien {
-    pub sent: u64,
-    pub at: u64,
-}
 
 /// Why nothing can be drawn.
 #[derive(Clone, Copy, Debug, PartialEq, Eq)]
@@ -70,7 +64,7 @@ pub struct Judge {
     known: Known,
     others: Others,
     strange: Strange,
-    alien: Option<Alien>,
+    aliens: Aliens,
     hearing: Bucket,
     answering: Bucket,
     asked: Bucket,
@@ -94,7 +88,7 @@ impl Model for Judge {
       known = j.known;
       others = j.others;
       strange = j.strange;
-      alien = j.alien;
+      aliens = j.aliens;
       hearing = j.hearing.paid;
       answering = j.answering.paid;
       asked = j.asked.paid;
@@ -126,7 +120,7 @@ impl Judge {
             known: Known::new(alloc)?,
             others: Others::new(alloc)?,
             strange: Strange::new(alloc, cells, strangers)?,
-            alien: None,
+            aliens: Aliens::new(alloc)?,
             hearing: Bucket::WHOLE,
             answering: Bucket::WHOLE,
             asked: Bucket::WHOLE,
@@ -238,7 +232,7 @@ impl Judge {
         is_another(origin.owner, self.owner_of(number))
     }
 
-    /// Who owns a number, if somebody does.
+    /// Who owns a number, if somebody does: of another, who has answered under it.
     fn owner_of(&self, number: u32) -> Option<u64>
         ensures { result ≡ owner_of number self.now }
     {
@@ -247,16 +241,17 @@ impl Judge {
         }
         match self.others.get(number) {
             None => None,
-            Some(other) => other.origin.owner,
+            Some(other) => owner_in(&other),
         }
     }
 
     /// What a report of ours that leaves now echoes besides, under our own number: whoever has our
-    /// number too hears from it that we have heard them. To all others the report says the same.
+    /// number too hears from it that we have heard them. Those of eight origins have their turns. To
+    /// all others the report says the same.
     pub fn own_echo(&self, now: u64) -> Option<Echo>
         ensures { result ≡ own_echo now self.now }
     {
-        match self.alien {
+        match self.aliens.at(now) {
             None => None,
             Some(alien) => {
                 let held = now.saturating_sub(alien.at);
@@ -282,6 +277,17 @@ impl Judge {
         if is_drawing && self.is_full(held) {
             return Some(AddFault::Full);
         }
+        None
+    }
+}
+
+/// Who owns where a number has answered from.
+fn owner_in(other: &Other) -> Option<u64>
+    ensures { result ≡ owner_in (Some other.now) }
+{
+    if other.answered.is_some() {
+        other.origin.owner
+    } else {
         None
     }
 }

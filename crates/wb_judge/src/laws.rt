@@ -2,15 +2,22 @@
 //! stands here for its clause.
 
 ghost use Rattle.std.specs.Prelude.{◌≡◌, ◌^◌};
-ghost use Rattle.wb_judge.specs.declared.limits.TheConstants.{AHEAD_KNOWN, AHEAD_STRANGER, ASKED_AHEAD, ASKED_PAUSE, DRIFT, FIRM_TIME, FRESH, LEAST_SHARE, MOST_KNOWN, MOST_OTHERS, MOST_OWN, MOST_SHARING, OF_ORIGIN, PATIENCE, REPAIRS_AHEAD, REPAIRS_OF_ONE, REPAIR_PAUSE, RESERVE, SILENCE, STRANGERS, STRANGE_PAGES, STRANGE_ROWS, TIME_LIMIT};
+ghost use Rattle.wb_judge.specs.declared.limits.TheConstants.{AHEAD_KNOWN, AHEAD_STRANGER, ASKED_AHEAD, ASKED_PAUSE, DRIFT, FIRM_TIME, FRESH, LEAST_SHARE, MOST_ALIENS, MOST_KNOWN, MOST_OTHERS, MOST_OWN, MOST_SHARING, OF_ORIGIN, PATIENCE, REPAIRS_AHEAD, REPAIRS_OF_ONE, REPAIR_PAUSE, RESERVE, SILENCE, STRANGERS, STRANGE_PAGES, STRANGE_ROWS, TIME_LIMIT};
 ghost use Rattle.wb_judge.specs.Members.{KnownAgain, KnownBeside, MembersAreHeard, NumbersBeside, RequestsArePaidFor, RequestsHaveRoom};
-ghost use Rattle.wb_judge.specs.Laws.{AMemberIsNotDropped, FewAreTaken, NamesCountOnce, NamesTakeTurns, NobodyHushesFirmNames, NumbersStay, OnlyAnswersMakeKnown, RepairsAreFew, RepairsAreShared, ReplayIsNoTwin, SharesStay, StateIsBounded, StaysStrange, StrangersAreFew, StrangersHaveAShare, StrangersHushNobody, TurnsAreFew, VouchesForNobody};
+ghost use Rattle.wb_judge.specs.Laws.{AMemberIsNotDropped, AliensStay, ClaimsBindNobody, FewAreTaken, NamesCountOnce, NamesTakeTurns, NewcomersHaveRoom, NobodyHushesFirmNames, NumbersStay, OnlyAnswersMakeKnown, OwnersStay, RepairsAreFew, RepairsAreShared, ReplayIsNoTwin, SharesStay, StateIsBounded, StaysStrange, StrangersAreFew, StrangersHaveAShare, StrangersHushNobody, TurnsAreFew, VouchesForNobody};
 
 /// An origin becomes known by an answer that came from there, and by nothing else. A number that
 /// has answered us stays where it speaks, while it speaks, until it answers from elsewhere.
 pub fn only_answers_make_known()
     ensures known { OnlyAnswersMakeKnown }
     ensures numbers { NumbersStay }
+{}
+
+/// If the network keeps origins, whoever answers under a number keeps it, and no other owner speaks
+/// under it, while its origin is remembered. Whoever only claims a number keeps it from nobody.
+pub fn owners_stay()
+    ensures stay { OwnersStay }
+    ensures claims { ClaimsBindNobody }
 {}
 
 /// A member's drawop is not dropped that is not ours, is at most a day ahead of the time of day,
@@ -81,15 +88,27 @@ pub fn repairs_are_few()
     ensures shared { RepairsAreShared }
 {}
 
+/// However many numbers speak from origins that have one, whether they answer or not, there is room
+/// for a number of an origin that has none.
+pub fn newcomers_have_room()
+    ensures { NewcomersHaveRoom }
+{}
+
 /// What answers nobody, as a replay, shows no twin.
 pub fn a_replay_is_no_twin()
     ensures { ReplayIsNoTwin }
 {}
 
+/// Of up to eight origins the last report under our number is remembered that is not ours: noise of
+/// one hides no twin at another.
+pub fn noise_hides_no_twin()
+    ensures { AliensStay }
+{}
+
 /// How many moments of ours, origins and numbers are remembered; the limit of times; and by how many
 /// others names take turns at being firm, at most.
 pub fn limits()
-    ensures remembered { (MOST_OWN ≡ 256) × (MOST_KNOWN ≡ 1024) × (MOST_OTHERS ≡ 1024) }
+    ensures remembered { (MOST_OWN ≡ 256) × (MOST_KNOWN ≡ 1024) × (MOST_OTHERS ≡ 1024) × (MOST_ALIENS ≡ 8) }
     ensures time { TIME_LIMIT ≡ 2 ^ 62 }
     ensures sharing { MOST_SHARING ≡ 31 }
 {}

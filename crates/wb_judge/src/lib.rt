@@ -12,11 +12,12 @@
 //!
 //! In reading order: `limits` has the numbers; `origin` says where datagrams come from; `bucket`
 //! takes some at once and then one in each pause; `own_reports` are our moments, and who answers
-//! us; `known`, `others` and `strange` are the origins that are known, the numbers that were heard,
+//! us; `aliens` are reports under our number; `known`, `others` and `strange` are the origins that are known, the numbers that were heard,
 //! and the share of strangers; `pages` lists pages; `report`, `facts` and `verdict` say what is
 //! judged and what becomes of it; `judge` joins them. `laws` says what follows.
 #![tactic(auto)]
 
+mod aliens;
 mod bucket;
 mod day_clock;
 mod facts;
@@ -34,10 +35,11 @@ mod rows;
 mod strange;
 mod verdict;
 
+pub use aliens::{Alien, Aliens};
 pub use bucket::Bucket;
 pub use day_clock::DayClock;
 pub use facts::Facts;
-pub use judge::{AddFault, Alien, Judge, Start};
+pub use judge::{AddFault, Judge, Start};
 pub use known::{Known, KnownOrigin};
 pub use limits::{AHEAD_KNOWN, AHEAD_STRANGER, FRESH, PATIENCE, SILENCE, TIME_LIMIT};
 pub use origin::Origin;

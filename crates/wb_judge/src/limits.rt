@@ -4,6 +4,9 @@
 /// report, so whoever echoes it is a member.
 pub const MOST_OWN: usize = 256;
 
+/// The most origins of which the last report under our number is remembered that is not ours.
+pub const MOST_ALIENS: usize = 8;
+
 /// An echo of a moment that is older answers nobody.
 pub const FRESH: u64 = 256_000_000;
 
@@ -46,6 +49,10 @@ pub const RESERVE: u32 = 32;
 /// before are paid for up to this far ahead at most.
 pub const NEW_AHEAD: u64 = 255_000_000;
 
+/// While more than half of these are used up, none is heard of an origin that has a number: so there
+/// is room for one that has none.
+pub const NEW_OF_ONE: u64 = 127_000_000;
+
 /// What a new number costs.
 pub const NEW_PAUSE: u64 = 1_000_000;
 
@@ -80,8 +87,8 @@ pub const FETCH_PAUSE: u64 = 10_000_000;
 /// And none of the same member for this long.
 pub const FETCH_AGAIN: u64 = 60_000_000;
 
-/// A number of ours that is further above what we hold is forged, since nobody draws as many on a
-/// page.
+/// A mark of ours that is further above what we hold is forged, since nobody draws as many on a
+/// page. While we listen we take no drawop of ours, so a start raises no number by more.
 pub const FORGED_ABOVE: u64 = 65_536;
 
 /// How far ahead of the time of day that of a drawop from a known origin may be.

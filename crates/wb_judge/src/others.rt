@@ -2,7 +2,7 @@
 
 ghost use Rattle.std.specs.Prelude.{◌≡◌, ◌≤◌, ◌<◌, [], IfOk, IfSome, is_none, length, position};
 ghost use Rattle.wb_judge.specs.Firm.{is_present, present};
-ghost use Rattle.wb_judge.specs.Others.{first_to_go, gone_from, heard_lately, is_bound_elsewhere, other_of, other_with, spoken, without};
+ghost use Rattle.wb_judge.specs.Others.{first_to_go, gone_from, has_speaker, heard_lately, is_bound_elsewhere, other_of, other_with, spoken, without};
 
 use crate::limits::{MOST_OTHERS, PATIENCE};
 use crate::origin::Origin;
@@ -62,6 +62,13 @@ impl Others {
             .iter()
             .filter(|other| now.saturating_sub(other.at) <= PATIENCE);
         here.copied().collect(alloc)
+    }
+
+    /// Whether some number speaks from there.
+    pub(crate) fn has_speaker(&self, origin: Origin) -> bool
+        ensures { result ≡ has_speaker origin self.now }
+    {
+        self.items.iter().any(|other| other.origin.is(&origin))
     }
 
     /// Whether it is that of a member that has answered us and speaks from another origin.

@@ -12,8 +12,7 @@ use Rattle.wb_names.proofs.Listings.{Contains-cases, Contains-here, Contains-non
 use Rattle.wb_names.proofs.Orders.{same_page-itself}
 use Rattle.wb_judge.specs.Days.{time_of_day}
 use Rattle.wb_judge.specs.Judge.{Judge, knows}
-use Rattle.wb_judge.specs.Judging.{ahead_of, drawop_verdict, is_ahead, is_forged_drawop}
-use Rattle.wb_judge.specs.Others.{is_bound_elsewhere}
+use Rattle.wb_judge.specs.Judging.{ahead_of, drawop_verdict, is_ahead, is_claimed, is_forged_drawop}
 use Rattle.wb_judge.specs.Verdicts.{dropped}
 use Rattle.wb_judge.specs.declared.facts.Facts.{Facts}
 use Rattle.wb_judge.specs.declared.limits.TheConstants.{AHEAD_KNOWN}
@@ -90,7 +89,7 @@ unfolding drawop_verdict
 let_in o d f j new none =
     let known = knows o f.at j in
     not_ahead known d.time f.at j
-    (asked f.holds (is_forged_drawop known d f j) (not known && is_bound_elsewhere d.name.source o f.at j.others) (is_ahead known d.time f.at j) _ _ new none)
+    (asked f.holds (is_forged_drawop known d f j) (not known && is_claimed o d.name.source f.at j) (is_ahead known d.time f.at j) _ _ new none)
 
 -- ---- a list of drawops whose times grow no faster than it
 

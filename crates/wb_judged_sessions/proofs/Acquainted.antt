@@ -111,15 +111,15 @@ unfolding random_started word_of after_word words.started report_of gaps_of page
     verdict_on judge_after answers is_known known_from is_bound_elsewhere spoken other_with without_origin is_admitted after_admitting is_fetched speaking after_answer after_fetching after_hearing is_elsewhere admitted_verdict after_admitted report_verdict after_report own_verdict after_own
 one_reports = refl
 
-remembers_one : RemembersTwin twins 1 first_report answered
+remembers_one : RemembersTwin twins 1 2000001 first_report answered
 unfolding random_started word_of after_word words.started report_of gaps_of pages_of near_names leaps_on turns_on after_kept_line sent_by_kept_line
     verdict_on judge_after answers is_known known_from is_bound_elsewhere spoken other_with without_origin is_admitted after_admitting is_fetched speaking after_answer after_fetching after_hearing is_elsewhere admitted_verdict after_admitted report_verdict after_report own_verdict after_own
-remembers_one = refl
+remembers_one = (origin_of 0, refl)
 
-remembers_other : RemembersTwin twins 0 second_report one_answers
+remembers_other : RemembersTwin twins 0 4000000 second_report one_answers
 unfolding random_started word_of after_word words.started report_of gaps_of pages_of near_names leaps_on turns_on after_kept_line sent_by_kept_line
     verdict_on judge_after answers is_known known_from is_bound_elsewhere spoken other_with without_origin is_admitted after_admitting is_fetched speaking after_answer after_fetching after_hearing is_elsewhere admitted_verdict after_admitted report_verdict after_report own_verdict after_own
-remembers_other = refl
+remembers_other = (origin_of 1, refl)
 
 own_0 : (judged_at twins answered 0).judge.own ≡ 2000000 ∷ []
 unfolding random_started word_of after_word words.started report_of gaps_of pages_of near_names leaps_on turns_on after_kept_line sent_by_kept_line
@@ -179,7 +179,7 @@ now_3 = refl
 twins_taken : AreTaken twins one_answers
 twins_taken = (omega (arith, now_3), (omega (arith, now_2), (omega (arith, now_1), (omega (arith, now_0), ((is_opening 2 1, tt), ((is_opening 1 1, tt), tt))))))
 
-sent_1 : IsSentAfter (RemembersTwin twins 1 first_report) twins 1 answered (answer 10)
+sent_1 : IsSentAfter (RemembersTwin twins 1 2000001 first_report) twins 1 answered (answer 10)
 sent_1 = record {
   later = [];
   call = at 2000001 1 (Takes (CameFrom 2000001 (origin_of 0) (reports 10 2000000 [])));
@@ -192,7 +192,7 @@ sent_1 = record {
   after = remembers_one;
 }
 
-sent_0 : IsSentAfter (RemembersTwin twins 0 second_report) twins 0 one_answers second_answer
+sent_0 : IsSentAfter (RemembersTwin twins 0 4000000 second_report) twins 0 one_answers second_answer
 sent_0 = record {
   later = [];
   call = at 4000000 0 (Takes (Passed 4000000 Nothing));

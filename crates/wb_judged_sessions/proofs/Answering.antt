@@ -144,7 +144,7 @@ after_let_in o s sent page marks echoes f j l =
     let answer = answers j.own r.echo f.at in
     let k = after_admitting o s answer f.at j in
     let heard = after_hearing o s answer f.lacking f.at k in
-    let ours = after_own sent r f.at j in
+    let ours = after_own o sent r f.at j in
     ap (λ (b : Bool). cond b j (cond (nat_eq s j.me) ours (after_report o r f j))) l.owned
     ∙ ap (λ (b : Bool). cond b ours (after_report o r f j)) l.another
     ∙ ap (λ (b : Bool). cond (b || not (is_admitted o s answer f.at j)) j (after_admitted o r answer f k)) l.here

@@ -14,6 +14,7 @@ use Rattle.wb_names.proofs.Listings.{Any-from_map, Contains-cases, Contains-from
 use Rattle.wb_codec.specs.declared.datagram.Datagram.{Datagram}
 use Rattle.wb_codec.specs.declared.datagram.Datagram.TheVariants.{AskPages, Draw, PageState, Request, Session}
 use Rattle.wb_keeper.specs.declared.keeper.Heard.{Heard}
+use Rattle.wb_judge.specs.Aliens.{alien_at}
 use Rattle.wb_judge.specs.Adding.{own_echo}
 use Rattle.wb_member.specs.Judged.{echoes}
 use Rattle.wb_member.specs.Opened.{Opened, opened_with, present}
@@ -220,7 +221,7 @@ last_taken_is_echoed numbers older e line number sender moment page marks es ech
 
       mine : (x : Echo) → own ≡ Some x → x.source ≡ number → ⊥
       mine x is same =
-          another (sym same ∙ echo_mine (judging line h).me (moment_of line h) (judging line h).alien x is ∙ me_judging line h ∙ own_at numbers older e.place ∙ number_at numbers older e.place)
+          another (sym same ∙ echo_mine (judging line h).me (moment_of line h) (alien_at (moment_of line h) (judging line h).aliens) x is ∙ me_judging line h ∙ own_at numbers older e.place ∙ number_at numbers older e.place)
 
       among : Contains r.plain echo
       among = unplaced number own r.plain echo mine (eqb-true echo.source number f.1) (subst (λ (fs : List Echo). Contains fs echo) r.echoed f.0)

@@ -15,6 +15,7 @@ use Rattle.wb_names.proofs.Listings.{Contains-cases, Contains-filter, Contains-n
 use Rattle.wb_keeper.specs.Keeper.{KeeperCall, heard_by, newest, remember, senders_of, session_heard}
 use Rattle.wb_keeper.specs.Sessions.{echo_to as echo_of_sender}
 use Rattle.wb_keeper.specs.declared.keeper.Heard.{Heard}
+use Rattle.wb_judge.specs.Aliens.{alien_at}
 use Rattle.wb_judge.specs.Adding.{own_echo}
 use Rattle.wb_judge.specs.Reports.{echo_to}
 use Rattle.wb_member.specs.Judged.{echoes}
@@ -191,4 +192,4 @@ few_are_echoed numbers older e line number sender moment page marks es heard tak
 
       mine : (x : Echo) → own ≡ Some x → x.source ≡ it.0.source → ⊥
       mine x is same =
-          another (sym it.2 ∙ sym same ∙ echo_mine (judging line h).me (moment_of line h) (judging line h).alien x is ∙ me_judging line h ∙ own_at numbers older e.place ∙ number_at numbers older e.place)
+          another (sym it.2 ∙ sym same ∙ echo_mine (judging line h).me (moment_of line h) (alien_at (moment_of line h) (judging line h).aliens) x is ∙ me_judging line h ∙ own_at numbers older e.place ∙ number_at numbers older e.place)

@@ -8,6 +8,7 @@ use Rattle.wb_names.specs.declared.parts.Op.{Op}
 use Rattle.wb_names.proofs.Listings.{Contains-map, Contains-none}
 use Rattle.wb_codec.specs.declared.datagram.Datagram.{Datagram}
 use Rattle.wb_codec.specs.declared.datagram.Datagram.TheVariants.{AskPages, Draw, PageState, Request, Session}
+use Rattle.wb_judge.specs.Aliens.{alien_at}
 use Rattle.wb_judge.specs.Adding.{own_echo}
 use Rattle.wb_judge.specs.declared.origin.Origin.{Origin}
 use Rattle.wb_judge.specs.declared.verdict.Why.{Why}
@@ -106,7 +107,7 @@ unfolding sent_by_kept_line
 says_as line h own taken v c =
     let j = judging line h in
     let echo = own_echo (moment_of line h) j in
-    let mine : (e : Echo) → echo ≡ Some e → e.source ≡ h.kept.host.is.number = λ e is. echo_mine j.me (moment_of line h) j.alien e is ∙ me_judging line h ∙ own in
+    let mine : (e : Echo) → echo ≡ Some e → e.source ≡ h.kept.host.is.number = λ e is. echo_mine j.me (moment_of line h) (alien_at (moment_of line h) j.aliens) e is ∙ me_judging line h ∙ own in
     record {
       line = line;
       takes = refl;

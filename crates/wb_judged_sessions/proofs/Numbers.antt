@@ -15,14 +15,14 @@ use Rattle.wb_codec.specs.declared.datagram.Datagram.TheVariants.{AskPages, Draw
 use Rattle.wb_judge.specs.Answers.{answers}
 use Rattle.wb_judge.specs.Buckets.{has_room}
 use Rattle.wb_judge.specs.Judge.{Judge, is_another, is_forged, owner_in}
-use Rattle.wb_judge.specs.Judging.{after_admitted, after_admitting, after_answer, after_coming, after_fetching, after_hearing, after_judging, after_own, after_report, after_said, answering_at, fetching_at, is_admitted, is_elsewhere, is_fetched, is_forged_mark, is_heard, paid_for, speaking, with_payment}
+use Rattle.wb_judge.specs.Judging.{after_admitted, after_admitting, after_answer, after_coming, after_fetching, after_hearing, after_judging, after_own, after_report, after_said, answering_at, fetching_at, is_admitted, is_elsewhere, is_fetched, is_forged_mark, is_heard, new_ahead, paid_for, speaking, with_payment}
 use Rattle.wb_judge.specs.Laws.{is_answer, speaker_in}
 use Rattle.wb_judge.specs.Origins.{same_origin}
 use Rattle.wb_judge.specs.Others as numbers
 use Rattle.wb_judge.specs.Others.{first_to_go, heard_again, heard_first, is_bound_elsewhere, other_of, other_with, spoken, with_place_for, without}
 use Rattle.wb_judge.specs.Reports.{report_of}
 use Rattle.wb_judge.specs.declared.facts.Facts.{Facts}
-use Rattle.wb_judge.specs.declared.limits.TheConstants.{MOST_OTHERS, NEW_AHEAD, PATIENCE}
+use Rattle.wb_judge.specs.declared.limits.TheConstants.{MOST_OTHERS, PATIENCE}
 use Rattle.wb_judge.specs.declared.origin.Origin.{Origin}
 use Rattle.wb_judge.specs.declared.others.Other.{Other}
 use Rattle.wb_judge.specs.declared.report.Report.{Report}
@@ -267,7 +267,7 @@ spoken_in o (Session s sent page marks echoes) f j =
     let v = Session s sent page marks echoes in
     let i = after_coming o f.at j in
     let r = report_of j.me s marks echoes in
-    in_it o s v f j (after_judging o v f j) refl (said_others o s (is_answer v f.at j) f.at j i (after_own sent r f.at i) (after_report o r f i) refl (own_others sent r f.at i) (report_others o r f i))
+    in_it o s v f j (after_judging o v f j) refl (said_others o s (is_answer v f.at j) f.at j i (after_own o sent r f.at i) (after_report o r f i) refl (own_others o sent r f.at i) (report_others o r f i))
 spoken_in o (PageState s page marks) f j =
     let v = PageState s page marks in
     let i = after_coming o f.at j in
@@ -377,6 +377,7 @@ not_forged : (o : Origin) (number at : ℕ) (j : Judge) → nat_eq number j.me �
 not_forged o number at j another e =
     ap (λ (b : Bool). is_another o.owner (cond b j.here (owner_in (other_of number j.others)))) another
     ∙ ap (λ (x : Option Other). is_another o.owner (owner_in x)) e.found
+    ∙ ap (λ (b : Bool). is_another o.owner (cond b e.x.origin.owner None)) e.answered
     ∙ ap (λ (q : Origin). is_another o.owner q.owner) (same_origins e.x.origin o e.origin) ∙ no_other_owner o.owner
 
 in_report : (o : Origin) (r : Report) (f : Facts) (j : Judge) (at : ℕ) → is_forged_mark r f ≡ false → Entry o r.speaker at j.others → Spoke o r.speaker (answers j.own r.echo f.at) f.at j.others (after_report o r f j)
@@ -392,7 +393,7 @@ in_report o r f j at fine e = by (answers j.own r.echo f.at) where
   lets answer =
       ap (λ (b : Bool). (not answer && b) || not (is_admitted o r.speaker answer f.at j)) (not_bound o r.speaker f.at at j.others e)
       ∙ and_no (not answer) (not (is_admitted o r.speaker answer f.at j))
-      ∙ ap (λ (b : Bool). not (b || has_room NEW_AHEAD (paid_for answer j) f.at)) (heard_there answer) where
+      ∙ ap (λ (b : Bool). not (b || has_room (new_ahead o j.others) (paid_for answer j) f.at)) (heard_there answer) where
         and_no : (a b : Bool) → ((a && false) || b) ≡ b
         and_no true b = refl
         and_no false b = refl
@@ -419,7 +420,7 @@ heard_now o s sent page marks echoes f j at another fine heard =
       answer = answers j.own r.echo f.at
 
       ours : Judge
-      ours = after_own sent r f.at i
+      ours = after_own o sent r f.at i
 
       theirs : Judge
       theirs = after_report o r f i

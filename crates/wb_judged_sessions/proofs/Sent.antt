@@ -6,9 +6,10 @@ use Rattle.std.proofs.lemmas.Option.{none-some, same_Some}
 use Rattle.wb_names.specs.declared.echo.Echo.{Echo}
 use Rattle.wb_names.proofs.Listings.{Any-from_map, Contains-none}
 use Rattle.wb_codec.specs.declared.datagram.Datagram.{Datagram}
+use Rattle.wb_judge.specs.Aliens.{alien_at}
 use Rattle.wb_judge.specs.Adding.{echo_of, own_echo}
 use Rattle.wb_judge.specs.Judge.{Judge}
-use Rattle.wb_judge.specs.declared.judge.Alien.{Alien}
+use Rattle.wb_judge.specs.declared.aliens.Alien.{Alien}
 use Rattle.wb_judge.specs.declared.limits.TheConstants.{FRESH}
 use Rattle.wb_member.specs.Opened.{Opened}
 use Rattle.wb_keeping.specs.Laws.{KeptLine, doing_of, sent_by_kept}
@@ -59,7 +60,7 @@ line_sends line h own taken v c =
     let said = sent_by_doing (doing_of (handed line h)) h.kept in
     let r = Any-from_map (echoing echo) said v (subst (λ (vs : List Datagram). Contains vs v) (line_sends_as_kept line h) c) in
     let among : Contains said r.1 = (r.0, r.2, r.3) in
-    let mine : (e : Echo) → echo ≡ Some e → e.source ≡ h.kept.host.is.number = λ e is. echo_mine j.me (moment_of line h) j.alien e is ∙ me_judging line h ∙ own in
+    let mine : (e : Echo) → echo ≡ Some e → e.source ≡ h.kept.host.is.number = λ e is. echo_mine j.me (moment_of line h) (alien_at (moment_of line h) j.aliens) e is ∙ me_judging line h ∙ own in
     let same : plain v ≡ r.1 = ap plain (sym r.4) ∙ plain_again h.kept.host.is.number echo mine r.1 (call_sends (handed line h) h.kept (fault_none line h own taken) r.1 among) in
     subst (λ (w : Datagram). Contains said w) (sym same) among
 

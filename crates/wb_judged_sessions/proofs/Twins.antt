@@ -1,9 +1,9 @@
 -- Twins see each other.
-use Rattle.std.proofs.Common.{◌≡◌, ◌∙◌, ◌≤◌, ◌+◌, ℕ, Bool, true, false, cond, List, [], ◌∷◌, ap, arith, filter, length, refl, subst, sym}
+use Rattle.std.proofs.Common.{◌≡◌, ◌∙◌, ◌≤◌, ◌<◌, ◌+◌, ℕ, Bool, true, false, cond, List, [], ◌∷◌, ◌++◌, ap, arith, filter, length, refl, subst, sym}
 use Rattle.std.specs.Prelude.{◌-◌, ◌&&◌, ◌||◌, Contains, Option, None, Some, nat_eq, nat_lt, not}
 use Rattle.std.specs.List.{find, list_any}
 use Rattle.std.specs.Option.{option_or}
-use Rattle.std.proofs.lemmas.Bool.{eq-eqb, le-leb}
+use Rattle.std.proofs.lemmas.Bool.{eq-eqb, le-leb, lt-ltb}
 use Rattle.std.proofs.lemmas.Bool.Decides.{nat_tests}
 use Rattle.std.proofs.lemmas.List.Folds.{find-append}
 use Rattle.std.proofs.Math.Bool.{or-true}
@@ -14,6 +14,7 @@ use Rattle.wb_codec.specs.declared.datagram.Datagram.{Datagram}
 use Rattle.wb_codec.specs.declared.datagram.Datagram.TheVariants.{AskPages, Draw, PageState, Request, Session}
 use Rattle.wb_keeper.specs.declared.keeper.Heard.{Heard}
 use Rattle.wb_judge.specs.Adding.{echo_of, own_echo}
+use Rattle.wb_judge.specs.Aliens.{alien_at, beside, with_alien}
 use Rattle.wb_judge.specs.Answers.{answers}
 use Rattle.wb_judge.specs.Judge.{Judge, is_forged, knows}
 use Rattle.wb_judge.specs.Judging.{after_admitted, after_admitting, after_answer, after_coming, after_fetching, after_hearing, after_judging, after_of, after_own, after_report, is_forged_mark, is_twin, with_payment}
@@ -21,8 +22,8 @@ use Rattle.wb_judge.specs.Laws.{is_answer}
 use Rattle.wb_judge.specs.Reports.{echo_to, report_of}
 use Rattle.wb_judge.specs.Strange.{with_given}
 use Rattle.wb_judge.specs.declared.facts.Facts.{Facts}
-use Rattle.wb_judge.specs.declared.judge.Alien.{Alien}
-use Rattle.wb_judge.specs.declared.limits.TheConstants.{FRESH}
+use Rattle.wb_judge.specs.declared.aliens.Alien.{Alien}
+use Rattle.wb_judge.specs.declared.limits.TheConstants.{FRESH, MOST_ALIENS}
 use Rattle.wb_judge.specs.declared.origin.Origin.{Origin}
 use Rattle.wb_judge.specs.declared.report.Report.{Report}
 use Rattle.wb_judge.proofs.Twins.{replay_is_no_twin}
@@ -52,38 +53,38 @@ use Rattle.wb_judged_sessions.proofs.Echoed.{IsReported, report_echoes, report_m
 
 -- ---- what a report of a twin makes of a judge
 
-abbrev with_twin : ℕ → Report → ℕ → Judge → Judge
-with_twin sent r now j = record j { alien = Some (record { sent = sent; at = now }); has_twin = j.has_twin || is_twin sent r now j }
+abbrev with_twin : Origin → ℕ → Report → ℕ → Judge → Judge
+with_twin o sent r now j = record j { aliens = with_alien (record { origin = o; sent = sent; at = now }) j.aliens; has_twin = j.has_twin || is_twin sent r now j }
 
 of_twin : (o : Origin) (sent : ℕ) (page : PageId) (marks : List MarkValue) (echoes : List Echo) (f : Facts) (j : Judge) → is_forged j.me o j ≡ false → list_any (nat_eq sent) j.own ≡ false
-    → after_of o (Session j.me sent page marks echoes) f j ≡ with_twin sent (report_of j.me j.me marks echoes) f.at j
+    → after_of o (Session j.me sent page marks echoes) f j ≡ with_twin o sent (report_of j.me j.me marks echoes) f.at j
 unfolding after_own
 of_twin o sent page marks echoes f j owned other =
     let r = report_of j.me j.me marks echoes in
-    let ours = after_own sent r f.at j in
+    let ours = after_own o sent r f.at j in
     let theirs = after_report o r f j in
     ap (λ (b : Bool). cond b j (cond (nat_eq j.me j.me) ours theirs)) owned
     ∙ ap (λ (b : Bool). cond b ours theirs) (eq-eqb j.me j.me refl)
-    ∙ ap (λ (b : Bool). cond b j (with_twin sent r f.at j)) other
+    ∙ ap (λ (b : Bool). cond b j (with_twin o sent r f.at j)) other
 
 -- what it sends leaves that
 record SameTwin (j k : Judge) : Type 0 where
-  alien : k.alien ≡ j.alien
+  aliens : k.aliens ≡ j.aliens
   twin : k.has_twin ≡ j.has_twin
 
 sending : (v : Datagram) (j : Judge) → SameTwin j (after_sending v j)
-sending (Draw d) j = record { alien = refl; twin = refl }
-sending (Session s sent page marks es) j = record { alien = refl; twin = refl }
-sending (Request asker name) j = record { alien = refl; twin = refl }
-sending (AskPages asker) j = record { alien = refl; twin = refl }
-sending (PageState s page marks) j = record { alien = refl; twin = refl }
+sending (Draw d) j = record { aliens = refl; twin = refl }
+sending (Session s sent page marks es) j = record { aliens = refl; twin = refl }
+sending (Request asker name) j = record { aliens = refl; twin = refl }
+sending (AskPages asker) j = record { aliens = refl; twin = refl }
+sending (PageState s page marks) j = record { aliens = refl; twin = refl }
 
 all_sent : (sent : List Datagram) (j : Judge) → SameTwin j (after_sends sent j)
-all_sent [] j = record { alien = refl; twin = refl }
+all_sent [] j = record { aliens = refl; twin = refl }
 all_sent (v ∷ sent) j =
     let one = sending v j in
     let rest = all_sent sent (after_sending v j) in
-    record { alien = rest.alien ∙ one.alien; twin = rest.twin ∙ one.twin }
+    record { aliens = rest.aliens ∙ one.aliens; twin = rest.twin ∙ one.twin }
 
 line_sent : (line : Call) (h : Judged) → SameTwin (judging line h) (after_judged line h).judge
 line_sent line h = all_sent (sent_by_kept_line (handed line h) h.kept) (judging line h)
@@ -95,12 +96,17 @@ module _ (now : ℕ) (o : Origin) (sent : ℕ) (page : PageId) (marks : List Mar
   abbrev r : Report
   r = report_of h.judge.me h.judge.me marks es
 
-  judged : judge_after now o v h ≡ with_twin sent r now (after_coming o now h.judge)
+  judged : judge_after now o v h ≡ with_twin o sent r now (after_coming o now h.judge)
   unfolding judge_after
   judged = of_twin o sent page marks es (facts_of now v h.kept) (after_coming o now h.judge) twin.owned twin.other
 
-  remembers : (after_judged (CameFrom now o v) h).judge.alien ≡ Some (record { sent = sent; at = now })
-  remembers = (line_sent (CameFrom now o v) h).alien ∙ ap (λ (j : Judge). j.alien) judged
+  abbrev a : Alien
+  a = record { origin = o; sent = sent; at = now }
+
+  remembers : length (filter (beside a) h.judge.aliens) < MOST_ALIENS → (after_judged (CameFrom now o v) h).judge.aliens ≡ filter (beside a) h.judge.aliens ++ a ∷ []
+  remembers few =
+      (line_sent (CameFrom now o v) h).aliens ∙ ap (λ (j : Judge). j.aliens) judged
+      ∙ ap (λ (b : Bool). cond b (filter (beside a) h.judge.aliens ++ a ∷ []) (filter (beside a) h.judge.aliens)) (lt-ltb (length (filter (beside a) h.judge.aliens)) MOST_ALIENS few)
 
   sees : is_answer v now h.judge ≡ true → (after_judged (CameFrom now o v) h).judge.has_twin ≡ true
   sees answer =
@@ -109,7 +115,7 @@ module _ (now : ℕ) (o : Origin) (sent : ℕ) (page : PageId) (marks : List Mar
       ∙ ap (λ (b : Bool). h.judge.has_twin || b) answer ∙ or-true h.judge.has_twin
 
 pub twins_are_remembered : TwinsAreRemembered
-twins_are_remembered now o sent page marks es h twin = remembers now o sent page marks es h twin
+twins_are_remembered now o sent page marks es h twin few = remembers now o sent page marks es h twin few
 
 pub answers_show_twins : AnswersShowTwins
 answers_show_twins now o sent page marks es h twin answer = sees now o sent page marks es h twin answer
@@ -152,9 +158,9 @@ heard_report o r f j seen =
     let there = admitting o r.speaker (answers j.own r.echo f.at) f.at j seen in
     either _ j _ seen (either (is_forged_mark r f) k _ there (hearing o r.speaker (answers j.own r.echo f.at) f.lacking f.at k there))
 
-own_report : (sent : ℕ) (r : Report) (now : ℕ) (j : Judge) → IsSeen j → IsSeen (after_own sent r now j)
+own_report : (o : Origin) (sent : ℕ) (r : Report) (now : ℕ) (j : Judge) → IsSeen j → IsSeen (after_own o sent r now j)
 unfolding after_own
-own_report sent r now j seen = either (list_any (nat_eq sent) j.own) j (with_twin sent r now j) seen (ap (λ (b : Bool). b || is_twin sent r now j) seen)
+own_report o sent r now j seen = either (list_any (nat_eq sent) j.own) j (with_twin o sent r now j) seen (ap (λ (b : Bool). b || is_twin sent r now j) seen)
 
 -- a datagram that is no report answers nobody
 after_datagram : (o : Origin) (v : Datagram) (f : Facts) (j : Judge) → IsSeen j → IsSeen (after_judging o v f j)
@@ -163,7 +169,7 @@ after_datagram o (Draw d) f j seen = seen
 after_datagram o (Session s sent page marks es) f j seen =
     let i = after_coming o f.at j in
     let r = report_of j.me s marks es in
-    either (is_forged s o i) i _ seen (either (nat_eq s i.me) _ _ (own_report sent r f.at i seen) (heard_report o r f i seen))
+    either (is_forged s o i) i _ seen (either (nat_eq s i.me) _ _ (own_report o sent r f.at i seen) (heard_report o r f i seen))
 after_datagram o (Request asker name) f j seen = replay_is_no_twin o (Request asker name) f j refl ∙ seen
 after_datagram o (AskPages asker) f j seen = replay_is_no_twin o (AskPages asker) f j refl ∙ seen
 after_datagram o (PageState s page marks) f j seen = replay_is_no_twin o (PageState s page marks) f j refl ∙ seen
@@ -219,9 +225,9 @@ with_found e es few = ap (λ (b : Bool). echo_to e.source (cond b (placed e es) 
   room : (n : ℕ) → n ≤ 32 → nat_lt n 65535 ≡ true
   room n le = grind (arith, nat_tests)
 
-own_is : (me moment : ℕ) (alien : Option Alien) (heard : Heard) → alien ≡ Some (record { sent = heard.sent; at = heard.at }) → moment ≤ heard.at + FRESH
+own_is : (me moment : ℕ) (o : Origin) (alien : Option Alien) (heard : Heard) → alien ≡ Some (record { origin = o; sent = heard.sent; at = heard.at }) → moment ≤ heard.at + FRESH
     → echo_of me moment alien ≡ Some (record { source = me; sent = heard.sent; held = moment - heard.at })
-own_is me moment alien heard is soon =
+own_is me moment o alien heard is soon =
     ap (echo_of me moment) is
     ∙ ap (λ (b : Bool). let o : Option Echo = cond b (Some (record { source = me; sent = heard.sent; held = moment - heard.at })) None in o) (le-leb (moment - heard.at) FRESH (within soon)) where
       within : moment ≤ heard.at + FRESH → moment - heard.at ≤ FRESH
@@ -260,10 +266,13 @@ twins_see numbers calls e other now moment o page marks es heard taken same sent
           let t = report_echoes sent.line k me moment page marks es (taken_line numbers sent.earlier sent.call sent.line taken_there sent.takes) report in
           subst (λ (fs : List Echo). length fs ≤ 32) (sym t.1) (last_are_few (echoes t.0) (lawful_echoes t.0.is.number t.0.is.calls (present t.0)))
 
-      alien : (judging sent.line k).alien ≡ Some (record { sent = heard.sent; at = heard.at })
-      alien =
-          sym (line_sent sent.line k).alien ∙ ap (λ (x : Judged). x.judge.alien) (sym (after_it numbers sent.earlier sent.call sent.line sent.takes))
-          ∙ ap (λ (p : ℕ). (judged_at numbers (sent.call ∷ sent.earlier) p).judge.alien) sent.here ∙ sent.after
+      aliens : (judging sent.line k).aliens ≡ (judged_at numbers (sent.call ∷ sent.earlier) other).judge.aliens
+      aliens =
+          sym (line_sent sent.line k).aliens ∙ ap (λ (x : Judged). x.judge.aliens) (sym (after_it numbers sent.earlier sent.call sent.line sent.takes))
+          ∙ ap (λ (p : ℕ). (judged_at numbers (sent.call ∷ sent.earlier) p).judge.aliens) sent.here
+
+      alien : alien_at moment (judging sent.line k).aliens ≡ Some (record { origin = sent.after.0; sent = heard.sent; at = heard.at })
+      alien = ap (alien_at moment) aliens ∙ sent.after.1
 
       mine : (judging sent.line k).me ≡ me
       mine = me_judging sent.line k ∙ me_at numbers sent.earlier sent.call.place ∙ ap numbers sent.here ∙ same
@@ -272,7 +281,10 @@ twins_see numbers calls e other now moment o page marks es heard taken same sent
       echo = record { source = me; sent = heard.sent; held = moment - heard.at }
 
       own : own_echo (moment_of sent.line k) (judging sent.line k) ≡ Some echo
-      own = ap (λ (n : ℕ). echo_of n (moment_of sent.line k) (judging sent.line k).alien) mine ∙ ap (λ (t : ℕ). echo_of me t (judging sent.line k).alien) (sym now_there) ∙ own_is me moment (judging sent.line k).alien heard alien soon
+      own =
+          ap (λ (n : ℕ). echo_of n (moment_of sent.line k) (alien_at (moment_of sent.line k) (judging sent.line k).aliens)) mine
+          ∙ ap (λ (t : ℕ). echo_of me t (alien_at t (judging sent.line k).aliens)) (sym now_there)
+          ∙ own_is me moment sent.after.0 (alien_at moment (judging sent.line k).aliens) heard alien soon
 
       found : echo_to me es ≡ Some echo
       found = ap (echo_to me) report.echoed ∙ ap (λ (x : Option Echo). echo_to me (with_echo x report.plain)) own ∙ with_found echo report.plain few

@@ -54,12 +54,12 @@ second_report = record { sent = 2000001; at = 2000002 }
 -- All that the law asks for, twice. So first the one sees that it has a twin, and then the other.
 pub record TwinsHaveMet : Type 0 where
   pub taken : AreTaken twins one_answers
-  pub one_sent : IsSentAfter (RemembersTwin twins 1 first_report) twins 1 answered (answer 10)
+  pub one_sent : IsSentAfter (RemembersTwin twins 1 2000001 first_report) twins 1 answered (answer 10)
   pub one_in_time : IsInTime first_report 2000001 2000002 (judged_at twins answered 0).judge
   pub one_twin : IsOfTwin (origin_of 1) 2000001 (judged_at twins answered 0).judge
   pub before : (judged_at twins answered 0).judge.has_twin ≡ false
   pub one : (judged_at twins one_sees 0).judge.has_twin ≡ true
-  pub other_sent : IsSentAfter (RemembersTwin twins 0 second_report) twins 0 one_answers second_answer
+  pub other_sent : IsSentAfter (RemembersTwin twins 0 4000000 second_report) twins 0 one_answers second_answer
   pub other_in_time : IsInTime second_report 4000000 4000001 (judged_at twins one_answers 1).judge
   pub other_twin : IsOfTwin (origin_of 0) 4000000 (judged_at twins one_answers 1).judge
   pub other : (judged_at twins both_see 1).judge.has_twin ≡ true

@@ -1,14 +1,15 @@
 -- Twins are two members of one number. They see each other by answers under their own number.
-use Rattle.std.specs.Prelude.{◌≡◌, ℕ, ◌+◌, ◌≤◌, true, false, List, ◌∷◌, Some, nat_eq}
+use Rattle.std.specs.Prelude.{◌≡◌, ℕ, ◌+◌, ◌≤◌, ◌<◌, true, false, List, [], ◌∷◌, ◌++◌, Some, filter, length, nat_eq}
 use Rattle.std.specs.List.{list_any}
 use Rattle.wb_names.specs.Values.{MarkValue}
 use Rattle.wb_names.specs.declared.echo.Echo.{Echo}
 use Rattle.wb_names.specs.declared.name.PageId.{PageId}
 use Rattle.wb_codec.specs.declared.datagram.Datagram.TheVariants.{Session}
 use Rattle.wb_keeper.specs.declared.keeper.Heard.{Heard}
+use Rattle.wb_judge.specs.Aliens.{alien_at, beside}
 use Rattle.wb_judge.specs.Judge.{Judge, is_forged}
 use Rattle.wb_judge.specs.Laws.{is_answer}
-use Rattle.wb_judge.specs.declared.limits.TheConstants.{FRESH}
+use Rattle.wb_judge.specs.declared.limits.TheConstants.{FRESH, MOST_ALIENS}
 use Rattle.wb_judge.specs.declared.origin.Origin.{Origin}
 use Rattle.wb_judging.specs.Judged.{Judged}
 use Rattle.wb_judging.specs.declared.call.Call.{Call}
@@ -25,10 +26,11 @@ pub record IsOfTwin (o : Origin) (sent : ℕ) (j : Judge) : Type 0 where
   pub other : list_any (nat_eq sent) j.own ≡ false
   pub owned : is_forged j.me o j ≡ false
 
--- It is remembered, so that our next report echoes it.
+-- It is remembered beside those of other origins, if they are fewer than eight, and our reports echo them by turns.
 abbrev pub TwinsAreRemembered : Type 0
 TwinsAreRemembered = (now : ℕ) (o : Origin) (sent : ℕ) (page : PageId) (marks : List MarkValue) (echoes : List Echo) (h : Judged) → IsOfTwin o sent h.judge
-    → (after_judged (CameFrom now o (Session h.judge.me sent page marks echoes)) h).judge.alien ≡ Some (record { sent = sent; at = now })
+    → let a = record { origin = o; sent = sent; at = now } in length (filter (beside a) h.judge.aliens) < MOST_ALIENS
+    → (after_judged (CameFrom now o (Session h.judge.me sent page marks echoes)) h).judge.aliens ≡ filter (beside a) h.judge.aliens ++ a ∷ []
 
 -- If it answers us, we have a twin.
 abbrev pub AnswersShowTwins : Type 0
@@ -42,17 +44,17 @@ TwinsStay = (line : Call) (h : Judged) → h.judge.has_twin ≡ true → (after_
 
 -- ---- two members
 
--- The judge of the member at a place remembers a report under its number that is not its own.
-abbrev pub RemembersTwin : (ℕ → ℕ) → ℕ → Heard → List JudgedCallAt → Type 0
-RemembersTwin numbers place heard calls = (judged_at numbers calls place).judge.alien ≡ Some (record { sent = heard.sent; at = heard.at })
+-- The judge of the member at a place remembers a report under its number that is not its own, and it is the turn of that one at a moment.
+abbrev pub RemembersTwin : (ℕ → ℕ) → (place moment : ℕ) → Heard → List JudgedCallAt → Type 0
+RemembersTwin numbers place moment heard calls = (o : Origin) × (alien_at moment (judged_at numbers calls place).judge.aliens ≡ Some (record { origin = o; sent = heard.sent; at = heard.at }))
 
--- Another member of our number remembers a report of ours, and reports within 256 seconds. That comes to us, so we see that we have a twin.
+-- Another member of our number remembers a report of ours, and reports within 256 seconds, at its turn. That comes to us, so we see that we have a twin.
 abbrev pub TwinsSee : Type 0
 TwinsSee =
     (numbers : ℕ → ℕ) (calls : List JudgedCallAt) (e : JudgedCallAt) (other now moment : ℕ) (o : Origin) (page : PageId) (marks : List MarkValue) (echoes : List Echo) (heard : Heard)
     → let me = numbers e.place in
     let v = Session me moment page marks echoes in
     let h = judged_at numbers calls e.place in
-    AreTaken numbers calls → numbers other ≡ me → IsSentAfter (RemembersTwin numbers other heard) numbers other calls v → moment ≤ heard.at + FRESH
+    AreTaken numbers calls → numbers other ≡ me → IsSentAfter (RemembersTwin numbers other moment heard) numbers other calls v → moment ≤ heard.at + FRESH
     → e.call ≡ Takes (CameFrom now o v) → IsInTime heard moment now h.judge → IsOfTwin o moment h.judge
     → (judged_at numbers (e ∷ calls) e.place).judge.has_twin ≡ true

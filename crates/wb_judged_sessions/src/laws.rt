@@ -2,7 +2,7 @@
 //! proofs to cite.
 
 ghost use Rattle.std.specs.Prelude.{◌≡◌};
-ghost use Rattle.wb_judge.specs.declared.limits.TheConstants.{FETCH_AGAIN, FETCH_PAUSE, FORGED_ABOVE, LACKING, NEW_AHEAD, NEW_PAUSE};
+ghost use Rattle.wb_judge.specs.declared.limits.TheConstants.{FETCH_AGAIN, FETCH_PAUSE, FORGED_ABOVE, LACKING, NEW_AHEAD, NEW_OF_ONE, NEW_PAUSE};
 ghost use Rattle.wb_laws_machines.specs.Maps.{IsMap};
 ghost use Rattle.wb_laws_kept.specs.Kept.{kept};
 ghost use Rattle.wb_judged_sessions.specs.Judged.{judged, judged_map};
@@ -143,11 +143,11 @@ pub fn clocks_are_set_back()
 
 /// The numbers of a judge that wb_judge has no law for: how many numbers a member lacks that takes a
 /// stream, and how long, in microseconds, it waits for the next one, and for the next one of the
-/// same member; how far ahead new numbers are paid for, and what one costs, in microseconds; and
-/// how far above what is held our own numbers are forged.
+/// same member; how far ahead new numbers are paid for, those of origins that have one, and what one
+/// costs, in microseconds; and how far above what is held marks of ours are forged.
 pub fn numbers_of_a_judge()
     ensures streams { (LACKING ≡ 500) × (FETCH_PAUSE ≡ 10000000) × (FETCH_AGAIN ≡ 60000000) }
-    ensures ahead { (NEW_AHEAD ≡ 255000000) × (NEW_PAUSE ≡ 1000000) }
+    ensures ahead { (NEW_AHEAD ≡ 255000000) × (NEW_OF_ONE ≡ 127000000) × (NEW_PAUSE ≡ 1000000) }
     ensures forged { FORGED_ABOVE ≡ 65536 }
 {}
 

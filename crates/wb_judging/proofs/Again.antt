@@ -56,11 +56,11 @@ drawops_both (Known d ∷ one) other = ap (λ (ds : List DrawopValue). d ∷ ds)
 drawops_both (Strange d ∷ one) other = ap (λ (ds : List DrawopValue). d ∷ ds) (drawops_both one other)
 drawops_both (Mark speaker page mark ∷ one) other = drawops_both one other
 
-drawops_noted : (now : ℕ) (lines : List RecordLine) → drawops_of (noted now lines) ≡ drawops_of lines
+pub drawops_noted : (now : ℕ) (lines : List RecordLine) → drawops_of (noted now lines) ≡ drawops_of lines
 drawops_noted now [] = refl
 drawops_noted now (line ∷ lines) = refl
 
-drawops_said : (ds : List DrawopValue) → drawops_of (map Said ds) ≡ ds
+pub drawops_said : (ds : List DrawopValue) → drawops_of (map Said ds) ≡ ds
 drawops_said [] = refl
 drawops_said (d ∷ ds) = ap (λ (es : List DrawopValue). d ∷ es) (drawops_said ds)
 
@@ -68,7 +68,7 @@ drawops_known : (ds : List DrawopValue) → drawops_of (map Known ds) ≡ ds
 drawops_known [] = refl
 drawops_known (d ∷ ds) = ap (λ (es : List DrawopValue). d ∷ es) (drawops_known ds)
 
-drawops_given : (given : List Given) (ds : List DrawopValue) → drawops_of (map (line_of given) ds) ≡ ds
+pub drawops_given : (given : List Given) (ds : List DrawopValue) → drawops_of (map (line_of given) ds) ≡ ds
 drawops_given given [] = refl
 drawops_given given (d ∷ ds) = by (has_name d.name given) ∙ ap (λ (es : List DrawopValue). d ∷ es) (drawops_given given ds) where
   by : (b : Bool) → drawops_in (cond b (Strange d) (Known d)) ++ drawops_of (map (line_of given) ds) ≡ d ∷ drawops_of (map (line_of given) ds)
@@ -125,7 +125,7 @@ cells_of h = h.kept.host.is.cells
 abbrev AreHeld : List DrawopValue → List DrawopValue → Type 0
 AreHeld h ds = Of (λ (d : DrawopValue). holds h d.name ≡ true) ds
 
-first_held : (line : Call) (h : Judged) → AreHeld (held_by h) (drawops_of (first_lines line h))
+pub first_held : (line : Call) (h : Judged) → AreHeld (held_by h) (drawops_of (first_lines line h))
 first_held (CameFrom now o v) h =
     let held = held_by h in
     let ds = named (freed o h.judge.strange.given (judge_after now o v h).strange.given) held in

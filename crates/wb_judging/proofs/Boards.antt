@@ -4,6 +4,8 @@ use Rattle.std.specs.Prelude.{◌||◌}
 use Rattle.std.proofs.lemmas.List.{drop_at}
 use Rattle.wb_names.specs.Arrivals.{history_after, history_with, outcome_of}
 use Rattle.wb_names.specs.Values.{DrawopValue}
+use Rattle.wb_names.specs.declared.name.PageId.{PageId}
+use Rattle.wb_names.specs.declared.parts.Op.{Op}
 use Rattle.wb_codec.specs.declared.datagram.Datagram.{Datagram}
 use Rattle.wb_codec.specs.declared.datagram.Datagram.TheVariants.{Draw, PageState}
 use Rattle.wb_member.specs.Board.{Held}
@@ -12,12 +14,12 @@ use Rattle.wb_member.specs.Opened.{Opened, ticked}
 use Rattle.wb_member.specs.declared.calls.Call.{Call}
 use Rattle.wb_member.specs.declared.calls.Call.TheVariants as calls
 use Rattle.wb_member.proofs.KeptBoards.{calls_keep_boards}
-use Rattle.wb_keeping.specs.Kept.{Transition, and_then, came, hears, learned, performs, takes, ticks, timed}
-use Rattle.wb_keeping.specs.Laws.{Came, KeptLine, Ticked, doing_of}
-use Rattle.wb_keeping.specs.Performing.{Keeping, sees}
+use Rattle.wb_keeping.specs.Kept.{Transition, and_then, came, drawing, drew, ends_full, hears, learned, performs, takes, ticks, timed}
+use Rattle.wb_keeping.specs.Laws.{Added, Came, KeptLine, Ticked, doing_of}
+use Rattle.wb_keeping.specs.Performing.{Keeping, sees, view_of}
 use Rattle.wb_keeping.specs.Views.{View, holds, is_asked, is_full}
 use Rattle.wb_policy.specs.Policy.{Policy}
-use Rattle.wb_keeping.proofs.EachLine.{DoesEach, Each, OfPolicy, hears_each, learned_each, then_each, timed_each}
+use Rattle.wb_keeping.proofs.EachLine.{DoesEach, Each, OfPolicy, ends_each, hears_each, learned_each, then_each, timed_each}
 use Rattle.wb_keeping.proofs.Performed.{after_both as lines_then}
 use Rattle.wb_judging.specs.Handing.{recalled}
 use Rattle.wb_judging.specs.Laws.{drawops_in}
@@ -134,6 +136,19 @@ held_drawn now d k =
     ap (λ (h : Opened). h.is.held) (lines_then one.lines two.lines host)
     ∙ all_still two.lines (after_lines one.lines host) (still_timed (λ (lines : List Line). see (one.lines ++ lines)) one.policy)
     ∙ held_takes d see k.policy host
+
+-- its user draws
+abbrev pub its : (now : ℕ) (page : PageId) (time : ℕ) (op : Op) (k : Keeping) → DrawopValue
+its now page time op k = drawing (view_of (ticked now k.host)) page time op
+
+pub held_added : (now : ℕ) (page : PageId) (time : ℕ) (op : Op) (k : Keeping)
+    → (after_kept_line (Added now page time op) k).host.is.held ≡ history_with k.host.is.held (its now page time op k) (outcome_of k.host.is.cells k.host.is.held (its now page time op k))
+unfolding after_kept_line
+held_added now page time op k =
+    let d = its now page time op k in
+    let see : List Line → View = λ lines. sees k.host (Calls (calls.Tick now) ∷ (Says (Draw d) ∷ lines)) in
+    let p = drew d (view_of (ticked now k.host)) k.policy in
+    all_still (and_then ends_full timed see p).lines (after_line (Says (Draw d)) (ticked now k.host)) (then_each IsStill ends_full timed (ends_each IsStill still_policy) still_timed see p)
 
 -- a line of the record
 pub held_recalled : (now : ℕ) (line : RecordLine) (k : Keeping) → (after_kept_line (recalled now line) k).host.is.held ≡ history_after k.host.is.cells k.host.is.held (drawops_in line)

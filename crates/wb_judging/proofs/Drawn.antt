@@ -1,8 +1,8 @@
 -- The user's drawing: what becomes of it, by what each part of the call does.
-use Rattle.std.proofs.Common.{◌≡◌, ◌∙◌, ℕ, Bool, List, [], ◌∷◌, ◌++◌, None, ap, append-nil, drop, length, refl, subst, sym}
+use Rattle.std.proofs.Common.{◌≡◌, ◌∙◌, ℕ, Bool, List, [], ◌∷◌, ◌++◌, None, ap, append-nil, drop, length, refl, subst, sym, true}
 use Rattle.std.specs.Prelude.{IsTrue, Option, Some, Result, Err, is_some}
 use Rattle.std.specs.Option.{option_map}
-use Rattle.wb_names.specs.Faults.{first_of}
+use Rattle.wb_names.specs.Faults.{fault_unless, first_of}
 use Rattle.wb_names.specs.declared.name.PageId.{PageId}
 use Rattle.wb_names.specs.declared.parts.Op.{Op}
 use Rattle.wb_codec.specs.declared.datagram.Datagram.{Datagram}
@@ -15,13 +15,14 @@ use Rattle.wb_keeping.specs.Laws.{Added, KeptLine}
 use Rattle.wb_keeping.specs.Performing.{IsKeptAt, Keeping, KeptValue}
 use Rattle.wb_keeping.specs.Refusing.{IsRefusedBy, add_fault}
 use Rattle.wb_keeping.specs.declared.kept_fault.KeptFault.{KeptFault}
+use Rattle.wb_keeping.specs.declared.kept_fault.KeptFault.TheVariants.{Numbers}
 use Rattle.wb_judging.specs.Events.{gain_events, told}
 use Rattle.wb_judging.specs.Handing.{handed}
 use Rattle.wb_judging.specs.Hearing.{after_sends}
 use Rattle.wb_judging.specs.Judged.{Judged, UserDrew}
 use Rattle.wb_judging.specs.Performing.{IsJudgedAt, JudgedValue, KeptDoes, after_judged, events_of}
 use Rattle.wb_judging.specs.Recording.{gain_lines}
-use Rattle.wb_judging.specs.Refusing.{IsRefusedAs, draw_fault}
+use Rattle.wb_judging.specs.Refusing.{IsRefusedAs, draw_fault, has_number}
 use Rattle.wb_judging.specs.declared.event.Event.{Event}
 use Rattle.wb_judging.specs.declared.event.Fate.{Fate}
 use Rattle.wb_judging.specs.declared.judged_fault.JudgedFault.{JudgedFault}
@@ -35,10 +36,11 @@ use Rattle.wb_judging.proofs.Performed.{performed, went}
 
 -- the judge does not refuse it
 pub drawn_fault : (now : ℕ) (page : PageId) (op : Op) (h : Judged) (drawing : Bool) (held : ℕ) (j : JudgeState) (r : Option AddFault) → r ≡ adding_fault drawing held j → r ≡ None
-    → drawing ≡ draws op → held ≡ length h.kept.host.is.held → j ≡ h.judge → draw_fault now page op h ≡ option_map Kept (add_fault now page (time_of_day h.judge.clock now) op h.kept)
-drawn_fault now page op h drawing held j r is none draws_it count judge =
+    → drawing ≡ draws op → held ≡ length h.kept.host.is.held → j ≡ h.judge → has_number page h.kept.host ≡ true → draw_fault now page op h ≡ option_map Kept (add_fault now page (time_of_day h.judge.clock now) op h.kept)
+drawn_fault now page op h drawing held j r is none draws_it count judge few =
     let same = is ∙ ap (λ (b : Bool). adding_fault b held j) draws_it ∙ ap (λ (n : ℕ). adding_fault (draws op) n j) count ∙ ap (λ (j : JudgeState). adding_fault (draws op) (length h.kept.host.is.held) j) judge in
-    ap (λ (f : Option AddFault). first_of (option_map Judge f ∷ option_map Kept (add_fault now page (time_of_day h.judge.clock now) op h.kept) ∷ [])) (sym same ∙ none)
+    ap (λ (f : Option AddFault). first_of (option_map Judge f ∷ fault_unless (has_number page h.kept.host) (Kept Numbers) ∷ option_map Kept (add_fault now page (time_of_day h.judge.clock now) op h.kept) ∷ [])) (sym same ∙ none)
+    ∙ ap (λ (b : Bool). first_of (fault_unless b (Kept Numbers) ∷ option_map Kept (add_fault now page (time_of_day h.judge.clock now) op h.kept) ∷ [])) few
     ∙ alone (option_map Kept (add_fault now page (time_of_day h.judge.clock now) op h.kept))
 
 pub refused_as : (X Y : Type 0) (f : Option KeptFault) (e : KeptFault) (r : Result Y JudgedFault) → IsRefusedBy {X = X} f (Err e) → r ≡ Err (Kept e) → IsRefusedAs {X = Y} (option_map Kept f) r

@@ -4,6 +4,7 @@ use Rattle.std.specs.List.{list_any}
 use Rattle.std.specs.Prelude.{Some, nat_eq, not, ◌||◌}
 use Rattle.wb_codec.specs.declared.datagram.Datagram.{Datagram}
 use Rattle.wb_codec.specs.declared.datagram.Datagram.TheVariants.{AskPages, Draw, PageState, Request, Session}
+use Rattle.wb_judge.specs.Aliens.{with_alien}
 use Rattle.wb_judge.specs.Answers.{answers}
 use Rattle.wb_judge.specs.Buckets.{has_room, paid_after}
 use Rattle.wb_judge.specs.Judge.{Judge, after_taking, is_forged, knows}
@@ -86,10 +87,10 @@ unfolding after_held
 request o f j =
     either f.holds j (after_held o f.at j) j (either (knows o f.at j) j (after_repair o f.at j) (after_stranger f.at j) (repair o f.at j) (stranger f.at j)) (itself j)
 
-owned : (sent : ℕ) (r : Report) (now : ℕ) (j : Judge) → Fixed j (after_own sent r now j)
+owned : (o : Origin) (sent : ℕ) (r : Report) (now : ℕ) (j : Judge) → Fixed j (after_own o sent r now j)
 unfolding after_own
-owned sent r now j =
-    either (list_any (nat_eq sent) j.own) j j (record j { alien = Some (record { sent = sent; at = now }); has_twin = j.has_twin || is_twin sent r now j }) (itself j)
+owned o sent r now j =
+    either (list_any (nat_eq sent) j.own) j j (record j { aliens = with_alien (record { origin = o; sent = sent; at = now }) j.aliens; has_twin = j.has_twin || is_twin sent r now j }) (itself j)
     (record { me = refl; cells = refl; clock = refl })
 
 said : (o : Origin) (number : ℕ) (j ours theirs : Judge) → Fixed j ours → Fixed j theirs → Fixed j (after_said o number j ours theirs)
@@ -97,7 +98,7 @@ said o number j ours theirs one other = either (is_forged number o j) j j _ (its
 
 after_it : (o : Origin) (v : Datagram) (f : Facts) (j : Judge) → Fixed j (after_of o v f j)
 after_it o (Draw d) f j = itself j
-after_it o (Session s sent page marks echoes) f j = let r = report_of j.me s marks echoes in said o s j _ _ (owned sent r f.at j) (reported o r f j)
+after_it o (Session s sent page marks echoes) f j = let r = report_of j.me s marks echoes in said o s j _ _ (owned o sent r f.at j) (reported o r f j)
 after_it o (PageState s page marks) f j = said o s j _ _ (itself j) (reported o (report_of j.me s marks []) f j)
 after_it o (Request asker name) f j = said o asker j _ _ (itself j) (request o f j)
 after_it o (AskPages asker) f j = said o asker j _ _ (itself j) (question o f.at j)

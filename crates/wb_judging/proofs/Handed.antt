@@ -11,7 +11,6 @@ use Rattle.wb_judge.specs.Judging.{after_coming, drawop_verdict, is_forged_drawo
 use Rattle.wb_judge.specs.Verdicts.{dropped, taken}
 use Rattle.wb_judge.specs.declared.facts.Facts.{Facts}
 use Rattle.wb_names.specs.declared.name.TheConstants.{FIRST_FORGED}
-use Rattle.wb_judge.specs.declared.limits.TheConstants.{FORGED_ABOVE}
 use Rattle.wb_judge.specs.declared.origin.Origin.{Origin}
 use Rattle.wb_judge.specs.declared.verdict.Verdict.{Verdict}
 use Rattle.wb_judge.specs.declared.verdict.Why.{Why}
@@ -43,10 +42,10 @@ in_reach true true more false e = absurd (true≢false (e refl))
 reached : (o : Origin) (d : DrawopValue) (f : Facts) (j : Judge) → (drawop_verdict o d f j).why ≡ None → (nat_eq d.name.source j.me && (nat_le FIRST_FORGED d.name.seq && not f.holds)) ≡ false
 unfolding drawop_verdict is_forged_drawop
 reached o d f j e =
-    in_reach (nat_eq d.name.source j.me) (nat_le FIRST_FORGED d.name.seq) (nat_lt (f.top + FORGED_ABOVE) d.name.seq || not (f.listens || knows o f.at j)) f.holds
+    in_reach (nat_eq d.name.source j.me) (nat_le FIRST_FORGED d.name.seq) (f.above || (f.listens || not (knows o f.at j))) f.holds
     (not_forged (hushes o d.name f.at j) f.holds (is_forged_drawop (knows o f.at j) d f j) _ e)
 
-unknown_not : (now : ℕ) (o : Origin) (v : Datagram) (h : Judged) → h.judge.me ≡ h.kept.host.is.number → (verdict_on now o v h).why ≡ None → is_unknown_of_ours v h.kept.host ≡ false
+pub unknown_not : (now : ℕ) (o : Origin) (v : Datagram) (h : Judged) → h.judge.me ≡ h.kept.host.is.number → (verdict_on now o v h).why ≡ None → is_unknown_of_ours v h.kept.host ≡ false
 unfolding verdict_on
 unknown_not now o (Draw d) h own e = rw (sym own) (reached o d (facts_of now (Draw d) h.kept) (after_coming o now h.judge) e)
 unknown_not now o (Session sender sent page marks echoes) h own e = refl

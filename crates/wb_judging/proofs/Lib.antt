@@ -16,6 +16,7 @@ pub mod Histories
 pub mod StrangeNames
 pub mod Boards
 pub mod Again
+pub mod Unrefused
 pub mod Asked
 pub mod Patching
 pub mod MembersIn

@@ -32,7 +32,7 @@ pub number_through : (lines : List Line) (host : Opened) → (after_lines lines 
 number_through [] host = refl
 number_through (line ∷ lines) host = number_through lines (after_line line host) ∙ number_stays line host
 
-number_kept : (line : KeptLine) (k : Keeping) → (after_kept_line line k).host.is.number ≡ k.host.is.number
+pub number_kept : (line : KeptLine) (k : Keeping) → (after_kept_line line k).host.is.number ≡ k.host.is.number
 unfolding after_kept_line
 number_kept line k = number_through (doing_of line (sees k.host) k.policy).lines k.host
 

@@ -13,7 +13,7 @@ use Rattle.wb_judge.specs.declared.verdict.Verdict.{Verdict}
 use Rattle.wb_judge.specs.declared.verdict.Why.{Why}
 use Rattle.wb_judge.specs.Judge.{Judge}
 use Rattle.wb_member.specs.Judged.{highest, holds}
-use Rattle.wb_member.specs.Opened.{Opened, present}
+use Rattle.wb_member.specs.Opened.{Opened, last_number, present}
 use Rattle.wb_policy.specs.declared.limits.TheConstants.{MOST_MARKS}
 use Rattle.wb_keeping.specs.Laws.{KeptLine, Added, Came, Ticked}
 use Rattle.wb_keeping.specs.Performing.{Keeping}
@@ -29,9 +29,14 @@ facts_with now held top lacking k = record {
   held = length k.host.is.held;
   listens = nat_lt now k.policy.ready;
   holds = held;
+  above = false;
   top = top;
   lacking = lacking;
 }
+
+-- a drawop with our number is above all of ours on its page that are held or were heard of
+abbrev pub is_raising : PageId → ℕ → Opened → Bool
+is_raising page number host = nat_lt (last_number page host) number
 
 -- the greatest number of ours that is held on a page
 abbrev pub own_top : PageId → Opened → ℕ
@@ -49,7 +54,7 @@ abbrev pub report_facts : ℕ → PageId → List MarkValue → Keeping → Fact
 report_facts now page marks k = facts_with now false (own_top page k.host) (lacking page k.host marks) k
 
 abbrev pub facts_of : ℕ → Datagram → Keeping → Facts
-facts_of now (Draw d) k = facts_with now (holds k.host d.name) (own_top d.name.page k.host) 0 k
+facts_of now (Draw d) k = record (facts_with now (holds k.host d.name) 0 0 k) { above = is_raising d.name.page d.name.seq k.host }
 facts_of now (Session sender sent page marks echoes) k = report_facts now page marks k
 facts_of now (Request asker name) k = facts_with now (holds k.host name) 0 0 k
 facts_of now (AskPages asker) k = facts_with now false 0 0 k

@@ -1,8 +1,9 @@
 -- What follows for a judged member, whatever comes in.
-use Rattle.std.specs.Prelude.{◌≡◌, ◌⊎◌, ℕ, ◌+◌, ◌≤◌, Bool, true, false, ◌&&◌, List, [], ◌∷◌, ◌++◌, None, Some, All, AllPairs, length, map}
+use Rattle.std.specs.Prelude.{◌≡◌, ◌⊎◌, ℕ, ◌+◌, ◌≤◌, Bool, true, false, ◌&&◌, List, [], ◌∷◌, ◌++◌, None, Some, All, AllPairs, length, map, nat_eq, nat_le, not}
 use Rattle.wb_names.specs.Arrivals.{history_after}
 use Rattle.wb_names.specs.Values.{DrawopValue}
 use Rattle.wb_names.specs.declared.echo.Echo.{Echo}
+use Rattle.wb_names.specs.declared.name.TheConstants.{FIRST_FORGED}
 use Rattle.wb_codec.specs.declared.datagram.Datagram.{Datagram}
 use Rattle.wb_codec.specs.declared.datagram.Datagram.TheVariants.{Draw}
 use Rattle.wb_judge.specs.Adding.{own_echo}
@@ -17,6 +18,7 @@ use Rattle.wb_member.specs.Judged.{holds}
 use Rattle.wb_member.specs.Opened.{present}
 use Rattle.wb_policy.specs.Choices.{own_echo as echo_of}
 use Rattle.wb_keeping.specs.Laws.{KeptLine, Came, Ticked, after_kept, fault_of}
+use Rattle.wb_judging.specs.Calling.{call_fault}
 use Rattle.wb_judging.specs.Echoing.{echoing, with_echo}
 use Rattle.wb_judging.specs.Handing.{handed}
 use Rattle.wb_judging.specs.Judged.{Call, CameFrom, Held, Judged, Passed, giver_of, moment_of}
@@ -158,6 +160,25 @@ pub record AreAlike (h other : Judged) : Type 0 where
 abbrev pub ItBeginsAgain : Type 0
 ItBeginsAgain = (lines : List Call) (h anew : Judged) → IsSound h → AreAlike h anew
     → AreAlike (after_all lines h) (after_all (map Held (record_by lines h)) anew)
+
+-- a drawop is of another number, or has a number below 2^31
+abbrev pub is_in_reach : ℕ → DrawopValue → Bool
+is_in_reach number d = not (nat_eq d.name.source number && nat_le FIRST_FORGED d.name.seq)
+
+-- a member that holds no drawop of its own from there on, as a new one
+pub record IsInReach (h : Judged) : Type 0 where
+  pub own : h.judge.me ≡ h.kept.host.is.number
+  pub held : All (λ d. is_in_reach h.kept.host.is.number d ≡ true) h.kept.host.is.held
+
+-- none of these calls is refused
+abbrev pub AreCalled : List Call → Judged → Type 0
+AreCalled [] h = Unit {0}
+AreCalled (line ∷ lines) h = (call_fault line h ≡ None) × AreCalled lines (after_judged line h)
+
+-- If it has the same number, it refuses no line of that record.
+abbrev pub RecordLinesAreTaken : Type 0
+RecordLinesAreTaken = (lines : List Call) (h anew : Judged) → IsInReach h → AreCalled lines h → anew.kept.host.is.number ≡ h.kept.host.is.number
+    → AreCalled (map Held (record_by lines h)) anew
 
 -- no line of the record stands after a datagram that is sent
 abbrev pub is_record : Event → Bool

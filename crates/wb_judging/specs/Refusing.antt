@@ -1,8 +1,9 @@
 -- Why a judged member refuses a call.
-use Rattle.std.specs.Prelude.{◌≡◌, ℕ, [], ◌∷◌, Option, Some, None, Result, Ok, Err, length}
+use Rattle.std.specs.Prelude.{◌≡◌, ℕ, ◌+◌, Bool, [], ◌∷◌, Option, Some, None, Result, Ok, Err, length, nat_lt}
 use Rattle.std.specs.Option.{option_map}
-use Rattle.wb_names.specs.Faults.{first_of}
+use Rattle.wb_names.specs.Faults.{fault_unless, first_of}
 use Rattle.wb_names.specs.declared.name.PageId.{PageId}
+use Rattle.wb_names.specs.declared.name.TheConstants.{FIRST_FORGED}
 use Rattle.wb_names.specs.declared.parts.Op.{Op}
 use Rattle.wb_judge.specs.Adding.{adding_fault}
 use Rattle.wb_judge.specs.Days.{time_of_day}
@@ -11,7 +12,8 @@ use Rattle.wb_keeper.specs.declared.keep_fault.KeepFault.TheVariants.{Memory}
 use Rattle.wb_keeping.specs.Laws.{fault_of}
 use Rattle.wb_keeping.specs.Refusing.{add_fault}
 use Rattle.wb_keeping.specs.declared.kept_fault.KeptFault.{KeptFault}
-use Rattle.wb_keeping.specs.declared.kept_fault.KeptFault.TheVariants.{Host}
+use Rattle.wb_keeping.specs.declared.kept_fault.KeptFault.TheVariants.{Host, Numbers}
+use Rattle.wb_member.specs.Opened.{Opened, last_number}
 use Rattle.wb_judging.specs.Handing.{handed}
 use Rattle.wb_judging.specs.Judged.{Held, Judged}
 use Rattle.wb_judging.specs.declared.judged_fault.JudgedFault.{JudgedFault}
@@ -22,10 +24,15 @@ use Rattle.wb_judging.specs.declared.record.RecordLine.{RecordLine}
 abbrev pub held_fault : RecordLine → Judged → Option KeptFault
 held_fault line h = fault_of (handed (Held line) h) h.kept
 
--- The user draws: the fault of the judge, else that of the kept member.
+-- We have a number left on a page, below 2^31: a record is refused that has another of ours.
+abbrev pub has_number : PageId → Opened → Bool
+has_number page host = nat_lt (last_number page host + 1) FIRST_FORGED
+
+-- The user draws: the fault of the judge, else that there are too many numbers, else that of the kept member.
 abbrev pub draw_fault : ℕ → PageId → Op → Judged → Option JudgedFault
 draw_fault now page op h = first_of (
     option_map Judge (adding_fault (draws op) (length h.kept.host.is.held) h.judge)
+    ∷ fault_unless (has_number page h.kept.host) (Kept Numbers)
     ∷ option_map Kept (add_fault now page (time_of_day h.judge.clock now) op h.kept)
     ∷ [])
 

@@ -1,13 +1,14 @@
 //! What a kept member says of itself, and of a datagram that came in.
 ghost use Rattle.std.specs.Prelude.{◌≡◌, IfOk};
 ghost use Rattle.wb_keeping.specs.Performing.{IsKeptAt, Keeping};
-ghost use Rattle.wb_judging.specs.Handing.{facts_of, facts_with, lacking, lacks, own_top, report_facts};
+ghost use Rattle.wb_judging.specs.Handing.{facts_of, facts_with, is_raising, lacking, lacks, own_top, report_facts};
+ghost use Rattle.wb_judging.specs.Refusing.{has_number};
 
 use std::alloc::AllocError;
 use wb_codec::Datagram;
 use wb_judge::Facts;
 use wb_keeping::KeptMember;
-use wb_names::{Mark, Marks, PageId};
+use wb_names::{FIRST_FORGED, Mark, Marks, PageId};
 use wb_policy::limits::MOST_MARKS;
 
 /// What a kept member says of itself at a moment, and of a datagram.
@@ -24,8 +25,9 @@ pub(crate) fn facts_of(
     match datagram {
         Datagram::Draw(drawop) => {
             let name = drawop.name();
-            let top = own_top(kept, name.page())?;
-            Ok(facts_with(kept, now, kept.member().holds(&name), top, 0))
+            let above = is_raising(kept, name.page(), name.seq());
+            let facts = facts_with(kept, now, kept.member().holds(&name), 0, 0);
+            Ok(Facts { above, ..facts })
         }
         Datagram::Session { page, marks, .. } => report_facts(kept, now, *page, marks),
         Datagram::PageState { page, marks, .. } => report_facts(kept, now, *page, marks),
@@ -47,8 +49,29 @@ fn facts_with(kept: &KeptMember, now: u64, holds: bool, top: u32, lacking: u64) 
         held: kept.member().held(),
         listens: kept.is_listening(now),
         holds,
+        above: false,
         top,
         lacking,
+    }
+}
+
+/// Whether a number is above all of ours on a page that are held or were heard of.
+pub(crate) fn is_raising(kept: &KeptMember, page: PageId, number: u32) -> bool
+    ensures { (k : Keeping) → IsKeptAt kept.now k → result ≡ is_raising page number k.host }
+{
+    match kept.member().next_number(page) {
+        None => false,
+        Some(next) => next <= number,
+    }
+}
+
+/// Whether we have a number left on a page, below 2^31.
+pub(crate) fn has_number(kept: &KeptMember, page: PageId) -> bool
+    ensures { (k : Keeping) → IsKeptAt kept.now k → result ≡ has_number page k.host }
+{
+    match kept.member().next_number(page) {
+        None => false,
+        Some(next) => next < FIRST_FORGED,
     }
 }
 

@@ -2,7 +2,7 @@
 //! stands here for its clause.
 
 ghost use Rattle.wb_judging.specs.Since.{SincePatches};
-ghost use Rattle.wb_judging.specs.Laws.{ItBeginsAgain, JudgedMembersAreKept, MembersAreHandedIn, NobodyMovesOurTime, OnlyAnswersMakeKnown, OthersHearTheSame, RecordsComeFirst, SendsAsKept, StrangersHushNobody, TheNetworkRefusesNothing, TheRecordIsTheBoard, TheSameOrATick};
+ghost use Rattle.wb_judging.specs.Laws.{ItBeginsAgain, JudgedMembersAreKept, MembersAreHandedIn, RecordLinesAreTaken, NobodyMovesOurTime, OnlyAnswersMakeKnown, OthersHearTheSame, RecordsComeFirst, SendsAsKept, StrangersHushNobody, TheNetworkRefusesNothing, TheRecordIsTheBoard, TheSameOrATick};
 ghost use Rattle.wb_judging.specs.Members.{EachKindIsHandedIn, MembersAreKnownAgain, MembersStay, NeededIsHandedIn, OthersDrawopsAreFit, ReportsAreFit};
 
 /// A judged member is a kept member that was handed one line in the place of each: the same line,
@@ -32,9 +32,10 @@ pub fn the_record_is_the_board()
 {}
 
 /// A member that begins anew and is handed the record of another holds the same in the same order,
-/// and the same is strange.
+/// and the same is strange. If it has the same number, it refuses no line of that record.
 pub fn it_begins_again()
-    ensures { ItBeginsAgain }
+    ensures alike { ItBeginsAgain }
+    ensures taken { RecordLinesAreTaken }
 {}
 
 /// A member's drawop is handed in if it is not ours, is no more than a day ahead, and has a cell.

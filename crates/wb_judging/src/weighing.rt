@@ -1,16 +1,16 @@
 //! A datagram that came is judged: what becomes of it, and what is recorded before what the board
 //! gains by it.
-ghost use Rattle.std.specs.Prelude.{◌≡◌, ◌++◌, [], IfOk, OnOk, length, map, nat_lt, if◌then◌else◌};
+ghost use Rattle.std.specs.Prelude.{◌≡◌, ◌++◌, [], IfOk, OnOk, length, map, if◌then◌else◌};
 ghost use Rattle.std.specs.List.{list_any};
 ghost use Rattle.wb_names.specs.Moments.{IsMoment};
 ghost use Rattle.wb_names.specs.Orders.{same_name};
 ghost use Rattle.wb_judge.specs.Judging.{after_judging, verdict};
 ghost use Rattle.wb_judge.specs.Reports.{mark_in};
-ghost use Rattle.wb_member.specs.Opened.{last_number};
 ghost use Rattle.wb_keeping.specs.Performing.{IsKeptAt, Keeping};
 ghost use Rattle.wb_judging.specs.Recording.{freed_lines, mark_lines, named, new_mark, new_mark_of};
 ghost use Rattle.wb_judging.specs.declared.record.RecordLine.TheVariants.{Known};
 
+use crate::facts::is_raising;
 use crate::record::RecordLine;
 use std::alloc::{AllocError, Global};
 use wb_codec::Datagram;
@@ -135,7 +135,7 @@ fn new_mark(kept: &KeptMember, speaker: u32, page: PageId, marks: &[Mark]) -> Op
         result ≡ new_mark speaker page (mark_in k.host.is.number marks.now) k.host }
 {
     let mark = mark_in(kept.member().me(), marks)?;
-    if !is_above(kept, page, mark.high()) {
+    if !is_raising(kept, page, mark.high()) {
         return None;
     }
     Some(RecordLine::Mark {
@@ -150,14 +150,4 @@ fn mark_in(source: u32, marks: &[Mark]) -> Option<Mark>
     ensures { result ≡ mark_in source marks.now }
 {
     marks.iter().find(|mark| mark.source() == source).copied()
-}
-
-/// Whether a number is above all of ours on a page that are held or were heard of.
-fn is_above(kept: &KeptMember, page: PageId, number: u32) -> bool
-    ensures { (k : Keeping) → IsKeptAt kept.now k → result ≡ nat_lt (last_number page k.host) number }
-{
-    match kept.member().next_number(page) {
-        None => false,
-        Some(next) => next <= number,
-    }
 }

@@ -2,11 +2,11 @@
 
 ghost use Rattle.std.specs.Prelude.{◌≡◌, ◌<◌, ◌^◌};
 ghost use Rattle.wb_names.specs.Moments.{IsMoment};
-ghost use Rattle.wb_judge.specs.Judging.{ahead_of, draws, drawop_verdict, is_ahead, is_forged_drawop};
+ghost use Rattle.wb_judge.specs.Judging.{ahead_of, draws, drawop_verdict, is_ahead, is_claimed, is_forged_drawop};
 
 use super::Judge;
 use crate::facts::Facts;
-use crate::limits::{AHEAD_KNOWN, AHEAD_STRANGER, FORGED_ABOVE};
+use crate::limits::{AHEAD_KNOWN, AHEAD_STRANGER};
 use crate::origin::Origin;
 use crate::verdict::{Verdict, Warning, Why};
 use wb_names::{Drawop, FIRST_FORGED, Op};
@@ -29,8 +29,7 @@ impl Judge {
         if self.is_forged_drawop(known, drawop, facts) {
             return Verdict::dropped(Why::Own);
         }
-        let source = drawop.name().source();
-        if !known && self.others.is_bound_elsewhere(source, origin, facts.at) {
+        if !known && self.is_claimed(origin, drawop.name().source(), facts.at) {
             return Verdict::dropped(Why::Speaks);
         }
         if self.is_ahead(known, drawop.time(), facts.at) {
@@ -51,15 +50,23 @@ impl Judge {
         Verdict::TAKEN
     }
 
-    /// Whether a drawop that has our number is not ours.
+    /// Whether a stranger's drawop is under the number of a member that speaks from elsewhere. Where
+    /// origins have owners that is a repair, as anybody may give one.
+    fn is_claimed(&self, origin: Origin, number: u32, now: u64) -> bool
+        ensures { result ≡ is_claimed origin number now self.now }
+    {
+        origin.owner.is_none() && self.others.is_bound_elsewhere(number, origin, now)
+    }
+
+    /// Whether a drawop that has our number is not ours, or raises our numbers. While we listen none
+    /// is taken, and then those of members that we have lost.
     #[tactic(auto, unfolding(crate::specs::Judging::is_forged_drawop))]
     fn is_forged_drawop(&self, known: bool, drawop: &Drawop, facts: &Facts) -> bool
         ensures { result ≡ is_forged_drawop known drawop.now facts.now self.now }
     {
         let name = drawop.name();
-        let top = facts.top as u64 + FORGED_ABOVE;
         name.source() == self.me
-            && (FIRST_FORGED <= name.seq() || top < name.seq() as u64 || !(facts.listens || known))
+            && (FIRST_FORGED <= name.seq() || facts.above || facts.listens || !known)
     }
 
     /// Whether a time is too far ahead of the time of day.

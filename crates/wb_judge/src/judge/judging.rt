@@ -57,13 +57,13 @@ impl Judge {
     ) -> Verdict
         requires { IsMoment facts.now.at }
         ensures verdict { result ≡ said_verdict origin report.now.speaker self.old (own_verdict sent report.now facts.now.at self.old) (report_verdict origin report.now facts.now self.old) }
-        ensures after { self.new ≡ after_said origin report.now.speaker self.old (after_own sent report.now facts.now.at self.old) (after_report origin report.now facts.now self.old) }
+        ensures after { self.new ≡ after_said origin report.now.speaker self.old (after_own origin sent report.now facts.now.at self.old) (after_report origin report.now facts.now self.old) }
     {
         if self.is_forged(report.speaker, origin) {
             return impostor(report.speaker);
         }
         if report.speaker == self.me {
-            return self.judge_own(sent, report, facts.at);
+            return self.judge_own(origin, sent, report, facts.at);
         }
         self.judge_report(origin, report, facts)
     }

@@ -1,12 +1,15 @@
 //! A report that came in: a session message, or a page state.
 
-ghost use Rattle.std.specs.Prelude.{◌≡◌, if◌then◌else◌};
+ghost use Rattle.std.specs.Prelude.{◌≡◌, ◌<◌, ◌^◌, if◌then◌else◌};
 ghost use Rattle.wb_names.specs.Moments.{IsMoment};
-ghost use Rattle.wb_judge.specs.Judging.{admitted_verdict, after_admitted, after_admitting, after_answer, after_fetching, after_hearing, after_own, after_report, fetched_from, fetching_at, is_admitted, is_elsewhere, is_fetched, is_forged_mark, is_recent, is_twin, mark_warning, own_verdict, report_verdict, speaking};
+ghost use Rattle.wb_judge.specs.Judging.{admitted_verdict, after_admitted, after_admitting, after_answer, after_fetching, after_hearing, after_own, after_report, fetched_from, fetching_at, is_admitted, is_elsewhere, is_fetched, is_forged_mark, is_recent, is_twin, mark_warning, new_ahead, own_verdict, report_verdict, speaking};
 
-use super::{Alien, Judge};
+use super::Judge;
+use crate::aliens::Alien;
 use crate::facts::Facts;
-use crate::limits::{FETCH_AGAIN, FETCH_PAUSE, FORGED_ABOVE, LACKING, NEW_AHEAD, NEW_PAUSE};
+use crate::limits::{
+    FETCH_AGAIN, FETCH_PAUSE, FORGED_ABOVE, LACKING, NEW_AHEAD, NEW_OF_ONE, NEW_PAUSE,
+};
 use crate::origin::Origin;
 use crate::others::Other;
 use crate::report::Report;
@@ -15,14 +18,24 @@ use crate::verdict::{Verdict, Warning, Why};
 impl Judge {
     /// What becomes of a session message under our own number.
     #[tactic(auto, unfolding(crate::specs::Judging::own_verdict, crate::specs::Judging::after_own))]
-    pub(super) fn judge_own(&mut self, sent: u64, report: &Report, now: u64) -> Verdict
+    pub(super) fn judge_own(
+        &mut self,
+        origin: Origin,
+        sent: u64,
+        report: &Report,
+        now: u64,
+    ) -> Verdict
         ensures verdict { result ≡ own_verdict sent report.now now self.old }
-        ensures after { self.new ≡ after_own sent report.now now self.old }
+        ensures after { self.new ≡ after_own origin sent report.now now self.old }
     {
         if self.own.has(sent) {
             return Verdict::dropped(Why::Own);
         }
-        self.alien = Some(Alien { sent, at: now });
+        self.aliens.put(Alien {
+            origin,
+            sent,
+            at: now,
+        });
         if self.has_twin || !self.own.is_answered(report.echo, now) {
             return Verdict::dropped(Why::Own);
         }
@@ -92,10 +105,23 @@ impl Judge {
                 return true;
             }
         }
+        let ahead = self.new_ahead(origin);
         if answer {
-            self.answering.take(NEW_AHEAD, NEW_PAUSE, now)
+            self.answering.take(ahead, NEW_PAUSE, now)
         } else {
-            self.hearing.take(NEW_AHEAD, NEW_PAUSE, now)
+            self.hearing.take(ahead, NEW_PAUSE, now)
+        }
+    }
+
+    /// Up to how far ahead new numbers are paid for, if one more is to speak from there.
+    fn new_ahead(&self, origin: Origin) -> u64
+        ensures ahead { result ≡ new_ahead origin self.now.others }
+        ensures within { result < 2 ^ 32 }
+    {
+        if self.others.has_speaker(origin) {
+            NEW_OF_ONE
+        } else {
+            NEW_AHEAD
         }
     }
 

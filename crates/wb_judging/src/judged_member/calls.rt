@@ -12,6 +12,7 @@ ghost use Rattle.wb_judging.specs.declared.judged_fault.JudgedFault.TheVariants.
 
 use crate::call::Call;
 use crate::event::Event;
+use crate::facts::has_number;
 use crate::handing::{perform, recall};
 use crate::hearing::hear_recalled;
 use crate::judged_fault::JudgedFault;
@@ -25,14 +26,18 @@ use wb_names::{PageId, Shape, shape_of};
 /// A moment is before the present one.
 const BACK_IN_TIME: JudgedFault = JudgedFault::Kept(KeptFault::Host(KeepFault::BackInTime));
 
+/// No number is left for a drawing.
+const NO_NUMBER: JudgedFault = JudgedFault::Kept(KeptFault::Numbers);
+
 impl JudgedMember {
     /// Something happens to the member, and these events follow; or the call is refused, and the
     /// member stays as it was.
     ///
     /// What others give, a moment and a time of day are refused before the present moment, and for
     /// nothing else. The user draws nothing if somebody has our number too, or no cell is left for
-    /// a drawing; and then as the kept member refuses it. A line of the record is refused only if
-    /// it has a drawop of ours that is not held and has a number that we would never reach.
+    /// a drawing, or our numbers on the page are used up below 2^31; and then as the kept member
+    /// refuses it. A line of the record is refused only if it has a drawop of ours that is not held
+    /// and has a number from 2^31 on, which no call records.
     pub fn call(&mut self, alloc: Global, call: &Call) -> Result<Vec<Event>, JudgedFault>
         requires { IsWithin call.now }
         ensures { Answers call.now self.old result self.new }
@@ -83,6 +88,9 @@ impl JudgedMember {
         let held = self.kept.member().held();
         if let Some(fault) = self.judge.adding_fault(is_drawing(&shape), held) {
             return Err(JudgedFault::Judge(fault));
+        }
+        if !has_number(&self.kept, page) {
+            return Err(NO_NUMBER);
         }
         let time = self.judge.time_of_day(now);
         let call = KeptCall::Added {

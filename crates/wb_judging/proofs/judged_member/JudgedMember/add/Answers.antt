@@ -25,7 +25,7 @@ returns-in_err-did-clause-fault c = λ h here.
     let time = c.time_of_day-time.ensures ∙ ap (λ (j : Judge). time_of_day j.clock now) at.judge in
     let count = c.held-held.ensures ∙ ap (λ (m : MemberValue). length m.board.drawops) c.member.ensures ∙ ap (λ (b : Held). length b.drawops) at.kept.member.board in
     let none = none_of c.adding_fault.result c.in_default.not-Some in
-    let whole = drawn_fault now page op h c.is_drawing.result c.held-held.result c.self.inside.judge c.adding_fault.result c.adding_fault.ensures none c.is_drawing.ensures count at.judge in
+    let whole = drawn_fault now page op h c.is_drawing.result c.held-held.result c.self.inside.judge c.adding_fault.result c.adding_fault.ensures none c.is_drawing.ensures count at.judge (sym (c.has_number.ensures h.kept at.kept) ∙ c.if-not-has_number.false) in
     let e = c.in_err-did.field-0.0 in
     let gives : c.from_residual.result ≡ Err (Kept e) = search rules in
     let is = subst (λ (t : ℕ). IsRefusedBy {X = Did} (add_fault now page t op h.kept) (Err e)) time (c.in_err-did.ensures.fault h.kept at.kept) in
@@ -41,7 +41,7 @@ returns-in_err-did-clause-refused c = λ h here some.
     let time = c.time_of_day-time.ensures ∙ ap (λ (j : Judge). time_of_day j.clock now) at.judge in
     let count = c.held-held.ensures ∙ ap (λ (m : MemberValue). length m.board.drawops) c.member.ensures ∙ ap (λ (b : Held). length b.drawops) at.kept.member.board in
     let none = none_of c.adding_fault.result c.in_default.not-Some in
-    let whole = drawn_fault now page op h c.is_drawing.result c.held-held.result c.self.inside.judge c.adding_fault.result c.adding_fault.ensures none c.is_drawing.ensures count at.judge in
+    let whole = drawn_fault now page op h c.is_drawing.result c.held-held.result c.self.inside.judge c.adding_fault.result c.adding_fault.ensures none c.is_drawing.ensures count at.judge (sym (c.has_number.ensures h.kept at.kept) ∙ c.if-not-has_number.false) in
     let some_kept = some_in (add_fault now page (time_of_day h.judge.clock now) op h.kept) (subst (λ (f : Option JudgedFault). IsTrue (is_some f)) whole some) in
     let back = subst (λ (t : ℕ). IsTrue (is_some (add_fault now page t op h.kept))) (sym time) some_kept in
     ap (λ (k : KeptValue). let v : JudgedValue = record { kept = k; judge = c.self.inside.judge } in v) (c.perform.ensures.refused h.kept at.kept back) ∙ c.self.view_is
