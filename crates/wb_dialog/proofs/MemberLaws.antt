@@ -14,6 +14,7 @@ use Rattle.wb_keeping.specs.Laws.{KeptLine, Added, Came as CameIn, Ticked, Tuned
 use Rattle.wb_keeping.specs.Performing.{Keeping, after_doing, sent_by_doing}
 use Rattle.wb_keeping.specs.Refusing.{add_fault, back_in_time, came_as, drawn_as}
 use Rattle.wb_keeping.specs.declared.kept_fault.KeptFault.{KeptFault}
+use Rattle.wb_keeping.specs.declared.kept_fault.KeptFault.TheVariants.{Numbers}
 use Rattle.wb_judging.specs.Echoing.{echoing}
 use Rattle.wb_judging.specs.Handing.{handed}
 use Rattle.wb_judging.specs.Calling.{call_fault}
@@ -21,7 +22,7 @@ use Rattle.wb_judging.specs.Judged.{Judged, moment_of}
 use Rattle.wb_judging.specs.declared.call.Call.{Call}
 use Rattle.wb_judging.specs.declared.call.Call.TheVariants.{CameFrom, Held, Passed, UserDrew}
 use Rattle.wb_judging.specs.Performing.{after_judged, after_kept_line, events_of, judging, sent_by_kept_line}
-use Rattle.wb_judging.specs.Refusing.{held_fault}
+use Rattle.wb_judging.specs.Refusing.{has_number, held_fault}
 use Rattle.wb_judging.specs.declared.judged_fault.JudgedFault.{JudgedFault}
 use Rattle.wb_judging.specs.declared.judged_fault.JudgedFault.TheVariants.{Judge, Kept as KeptBy}
 use Rattle.wb_judging.proofs.AsKept.{sends_as_kept}
@@ -65,10 +66,11 @@ in_time false fault e = absurd cc
 not_back : (now : ℕ) (k : Keeping) → back_in_time now k ≡ None → present k.host ≤ now
 not_back now k e = leb-true (present k.host) now (in_time (nat_le (present k.host) now) _ e)
 
-second_none : {F : Type 0} (a b : Option F) → first_of (a ∷ b ∷ []) ≡ None → b ≡ None
-second_none None None e = refl
-second_none None (Some x) e = absurd cc
-second_none (Some x) b e = absurd cc
+last_none : {F : Type 0} (a b c : Option F) → first_of (a ∷ b ∷ c ∷ []) ≡ None → c ≡ None
+last_none None None None e = refl
+last_none None None (Some x) e = absurd cc
+last_none None (Some x) c e = absurd cc
+last_none (Some x) b c e = absurd cc
 
 abbrev Owns : Judged → Type 0
 Owns h = h.judge.me ≡ h.kept.host.is.number
@@ -84,7 +86,7 @@ takes : (call : Call) (h : Judged) → Owns h → call_fault call h ≡ None →
 takes (CameFrom now o v) h own none = by_others now (CameFrom now o v) h (the_network_refuses_nothing (CameFrom now o v) h own refl) none
 takes (Passed now news) h own none = by_others now (Passed now news) h (the_network_refuses_nothing (Passed now news) h own refl) none
 takes (UserDrew now page op) h own none =
-    let drawn = second_none (option_map Judge (adding_fault (draws op) (length h.kept.host.is.held) h.judge)) (option_map KeptBy (add_fault now page (time_of_day h.judge.clock now) op h.kept)) none in
+    let drawn = last_none (option_map Judge (adding_fault (draws op) (length h.kept.host.is.held) h.judge)) (fault_unless (has_number page h.kept.host) (KeptBy Numbers)) (option_map KeptBy (add_fault now page (time_of_day h.judge.clock now) op h.kept)) none in
     no_fault KeptBy (add_fault now page (time_of_day h.judge.clock now) op h.kept) drawn
 takes (Held line) h own none = no_fault KeptBy (held_fault line h) none
 

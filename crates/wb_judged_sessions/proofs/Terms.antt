@@ -21,13 +21,14 @@ use Rattle.wb_keeping.specs.Laws.{Added, AreTaken as AreKeptLinesTaken, Came, Ke
 use Rattle.wb_keeping.specs.Performing.{Keeping, after_doing}
 use Rattle.wb_keeping.specs.Refusing.{add_fault}
 use Rattle.wb_keeping.specs.declared.kept_fault.KeptFault.{KeptFault}
-use Rattle.wb_keeping.specs.declared.kept_fault.KeptFault.TheVariants.{Host}
+use Rattle.wb_keeping.specs.declared.kept_fault.KeptFault.TheVariants.{Host, Numbers}
 use Rattle.wb_judging.specs.Handing.{handed, recalled, verdict_on}
 use Rattle.wb_judging.specs.Judged.{Judged}
 use Rattle.wb_judging.specs.declared.call.Call.{Call}
 use Rattle.wb_judging.specs.declared.call.Call.TheVariants.{CameFrom, Held, Passed, UserDrew}
 use Rattle.wb_judging.specs.Laws.{after_all, drawops_in, drawops_of, expanded}
 use Rattle.wb_judging.specs.Performing.{after_judged, after_kept_line}
+use Rattle.wb_judging.specs.Refusing.{has_number}
 use Rattle.wb_judging.specs.declared.judged_fault.JudgedFault.{JudgedFault}
 use Rattle.wb_judging.specs.declared.judged_fault.JudgedFault.TheVariants.{Judge as OfJudge, Kept as OfKept}
 use Rattle.wb_judging.specs.declared.record.RecordLine.{RecordLine}
@@ -76,17 +77,18 @@ own_at numbers (e ∷ older) i =
 
 -- ---- no line is refused
 
-second_none : (one : Option JudgedFault) (two : Option KeptFault) → first_of (one ∷ option_map OfKept two ∷ []) ≡ None → two ≡ None
-second_none None None e = refl
-second_none None (Some f) e = absurd cc
-second_none (Some f) two e = absurd cc
+last_none : (one mid : Option JudgedFault) (two : Option KeptFault) → first_of (one ∷ mid ∷ option_map OfKept two ∷ []) ≡ None → two ≡ None
+last_none None None None e = refl
+last_none None None (Some f) e = absurd cc
+last_none None (Some f) two e = absurd cc
+last_none (Some f) mid two e = absurd cc
 
 pub fault_none : (line : Call) (h : Judged) → IsOwn h → IsLineTaken line h → fault_of (handed line h) h.kept ≡ None
 fault_none (CameFrom now o v) h own le = the_network_refuses_nothing (CameFrom now o v) h own refl le
 fault_none (Passed now news) h own le = the_network_refuses_nothing (Passed now news) h own refl le
 fault_none (Held line) h own taken = taken
 fault_none (UserDrew now page op) h own taken =
-    second_none (option_map OfJudge (adding_fault (draws op) _ h.judge)) (add_fault now page (time_of_day h.judge.clock now) op h.kept) taken
+    last_none (option_map OfJudge (adding_fault (draws op) _ h.judge)) (fault_unless (has_number page h.kept.host) (OfKept Numbers)) (add_fault now page (time_of_day h.judge.clock now) op h.kept) taken
 
 record_taken : (given : List RecordLine) (h : Judged) → AreLinesTaken (map Held given) h → AreKeptLinesTaken (expanded (map Held given) h) h.kept
 unfolding after_kept_line

@@ -225,9 +225,9 @@ with_found e es few = ap (λ (b : Bool). echo_to e.source (cond b (placed e es) 
   room : (n : ℕ) → n ≤ 32 → nat_lt n 65535 ≡ true
   room n le = grind (arith, nat_tests)
 
-own_is : (me moment : ℕ) (o : Origin) (alien : Option Alien) (heard : Heard) → alien ≡ Some (record { origin = o; sent = heard.sent; at = heard.at }) → moment ≤ heard.at + FRESH
+own_is : (me moment : ℕ) (p : Origin) (alien : Option Alien) (heard : Heard) → alien ≡ Some (record { origin = p; sent = heard.sent; at = heard.at }) → moment ≤ heard.at + FRESH
     → echo_of me moment alien ≡ Some (record { source = me; sent = heard.sent; held = moment - heard.at })
-own_is me moment o alien heard is soon =
+own_is me moment p alien heard is soon =
     ap (echo_of me moment) is
     ∙ ap (λ (b : Bool). let o : Option Echo = cond b (Some (record { source = me; sent = heard.sent; held = moment - heard.at })) None in o) (le-leb (moment - heard.at) FRESH (within soon)) where
       within : moment ≤ heard.at + FRESH → moment - heard.at ≤ FRESH

@@ -9,6 +9,7 @@ use Rattle.wb_keeper.specs.declared.keeper.Heard.{Heard}
 use Rattle.wb_judge.specs.Aliens.{alien_at, beside}
 use Rattle.wb_judge.specs.Judge.{Judge, is_forged}
 use Rattle.wb_judge.specs.Laws.{is_answer}
+use Rattle.wb_judge.specs.declared.aliens.Alien.{Alien}
 use Rattle.wb_judge.specs.declared.limits.TheConstants.{FRESH, MOST_ALIENS}
 use Rattle.wb_judge.specs.declared.origin.Origin.{Origin}
 use Rattle.wb_judging.specs.Judged.{Judged}
@@ -29,7 +30,7 @@ pub record IsOfTwin (o : Origin) (sent : ℕ) (j : Judge) : Type 0 where
 -- It is remembered beside those of other origins, if they are fewer than eight, and our reports echo them by turns.
 abbrev pub TwinsAreRemembered : Type 0
 TwinsAreRemembered = (now : ℕ) (o : Origin) (sent : ℕ) (page : PageId) (marks : List MarkValue) (echoes : List Echo) (h : Judged) → IsOfTwin o sent h.judge
-    → let a = record { origin = o; sent = sent; at = now } in length (filter (beside a) h.judge.aliens) < MOST_ALIENS
+    → let a : Alien = record { origin = o; sent = sent; at = now } in length (filter (beside a) h.judge.aliens) < MOST_ALIENS
     → (after_judged (CameFrom now o (Session h.judge.me sent page marks echoes)) h).judge.aliens ≡ filter (beside a) h.judge.aliens ++ a ∷ []
 
 -- If it answers us, we have a twin.
