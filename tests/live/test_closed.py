@@ -10,7 +10,7 @@ import tempfile
 import time
 from concurrent.futures import ThreadPoolExecutor
 from pathlib import Path
-from typing import Any, Dict, Iterator, List
+from typing import Any, Dict, Iterator, List, Tuple
 
 import pytest
 
@@ -149,7 +149,7 @@ def test_read(facts: Facts, home: Dict[str, str], tmp_path: Path) -> None:
     """Whoever hears an open board reads it, and one whose key tags; under a key that seals nobody does."""
     (tmp_path / "key").touch(0o600)
     (tmp_path / "key").write_text(new_key() + "\n")
-    ways = [("an open board", ["--open"], True), ("a key that tags", [], True), ("a key that seals", ["--key", str(tmp_path / "key")], False)]
+    ways: List[Tuple[str, List[str], bool]] = [("an open board", ["--open"], True), ("a key that tags", [], True), ("a key that seals", ["--key", str(tmp_path / "key")], False)]
     for name, words, is_read in ways if HAS_SEALS else ways[:2]:
         ear = Ear(0, FIRST_PORT)
         member = started(home, *words)
