@@ -49,7 +49,7 @@ class Whole:
     def text(self) -> str:
         with self.making:
             if self.made is None:
-                drawops, hidden = ",".join([drawop.text() for drawop in self.drawops]), ",".join([erased.text() for erased in self.hidden])
+                drawops, hidden = ",".join([drawop.json or drawop.text() for drawop in self.drawops]), ",".join([erased.text() for erased in self.hidden])
                 self.made = compact(self.head)[:-1] + ',"drawops":[%s],"hidden":[%s]}' % (drawops, hidden)
             return self.made
 

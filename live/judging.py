@@ -145,10 +145,6 @@ class Judging:
 
     # ---- from one member of this program to another
 
-    def given(self) -> Tuple[List[Drawop], Set[Name]]:
-        """All that is held, and what of it no member gave."""
-        return list(self.member.drawn.all()), set(self.member.board.strange)
-
     def take_over(self, drawops: List[Drawop], strange: Set[Name]) -> None:
         """Takes in what another member of this program holds."""
         self.member.board.take_over([drawop for drawop in drawops if not self.member.drawn.holds(drawop.name)], strange)

@@ -6,16 +6,17 @@ import os
 import time
 from contextlib import ExitStack
 from functools import partial
-from typing import Any, Dict, List, Optional, Sequence, Set, Union
+from typing import Any, Callable, Dict, List, Optional, Sequence, Set, Union
 
 from wbhost import Block, HostEnded
 
 from .alarms import Alarms
-from .board import Board
+from .board import Board, nothing
 from .carriers.carrier import MOST_BYTES, Carrier, Origin
 from .carriers.mqtt import GONE
 from .drawn import Drawn
 from .events import Events
+from .given import Given
 from .inbox import MOST_WAITING, Inbox
 from .joining import Streams
 from .judging import Judging
@@ -27,7 +28,7 @@ from .presence import Pointed, Presence, write
 from .record import Record
 from .replay import Playing
 from .telling import Telling
-from .views import Drawop, Name, Page, name_of
+from .views import NOTES, Drawop, Name, Page, name_of
 from .wire import Wire
 from .words import Words
 
@@ -35,9 +36,8 @@ from .words import Words
 # people want a new one.
 MOST_PARTINGS, PARTED_LATELY = 8, 3600.0
 
-# the page that is in view at first, and the one that a convention reserves for names, titles and the chat
+# the page that is in view at first
 FIRST_PAGE: Page = (1, 1)
-NOTES: Page = (0, 0)
 
 # the name of no drawop
 NOTHING: Name = (0, NOTES, 0)
@@ -86,14 +86,25 @@ class Member:
         lacking = [digits for digits in kept.asked.values() if not self.drawn.holds(name_of(digits) or NOTHING)]
         self.board.take_over(self.drawops_of(lacking), set())
 
+    def begin_with(self, given: Given) -> None:
+        """Before it runs it has what another member of this program holds, and what was drawn under its number."""
+        self.board.begin_with(given.lines, given.told, given.strange)
+        self.drawn = given.drawn.copy()
+        if given.showing:
+            self.page = given.showing.page
+            self.telling.begin_with(given.showing)
+        had = [digits for digits in self.kept.drawn_by(self.me) if not self.drawn.holds(name_of(digits) or NOTHING)]
+        self.board.take_over(self.drawops_of(had), set())
+
     def drawops_of(self, many: Sequence[str]) -> List[Drawop]:
         return [Drawop(told.words, digits) for digits, told in zip(many, self.words.all(many)) if told.words]
 
     # ---- the loop
 
-    def run(self) -> None:
-        """Goes on until it is ended. Whatever ends it, nothing of it stays behind."""
+    def run(self, begin: Callable[[], None] = nothing) -> None:
+        """Begins, and goes on until it is ended. Whatever ends it, nothing of it stays behind."""
         try:
+            begin()
             self.go_on()
             self.board.end()
         finally:

@@ -65,6 +65,12 @@ class Showing:
         self.names: Set[Name] = set()  # of these
         self.hidden: Dict[Name, Erased] = {}
 
+    def copy(self) -> Showing:
+        """The same for another host that holds the same drawops, which shows the same."""
+        made = Showing(self.page)
+        vars(made).update(vars(self), shown=list(self.shown), names=set(self.names), hidden=dict(self.hidden))
+        return made
+
     def renew(self, board: Board, sheet: Sheet) -> Change:
         """Asks the host once more. What was shown and still is has not changed, though the host may say it."""
         since, held = board.since(self.page, self.held), sheet.drawops

@@ -149,6 +149,10 @@ class Telling:
             self.events.tell_page(self.whole(page, rows), self.told_change(change, rows))
         self.rows = rows
 
+    def begin_with(self, showing: Showing) -> None:
+        """What another host shows that holds the same."""
+        self.host, self.showings = self.member.board.host, {showing.page: showing.copy()}
+
     def showing(self, page: Page) -> Showing:
         """What a page shows, by the host of now."""
         if self.host is not self.member.board.host:

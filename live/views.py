@@ -8,6 +8,9 @@ from typing import Any, Dict, List, Optional, Tuple, Union
 # of a page: its creator and its number
 Page = Tuple[int, int]
 
+# the page that a convention reserves for names, titles and the chat
+NOTES: Page = (0, 0)
+
 # of a drawop: its source, its page and its number there
 Name = Tuple[int, Page, int]
 

@@ -242,8 +242,6 @@ class Handler(BaseHTTPRequestHandler):
                 raise Fault(503, str(fault)) from fault
         if guest is None:
             raise Fault(403, "open the page anew: this browser has no member here")
-        if not guest.may_draw():
-            raise Fault(503, "busy")
         self.guest, self.member, self.events = guest, guest.member, guest.events
 
     def address(self) -> str:
