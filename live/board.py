@@ -230,11 +230,15 @@ class Board:
 
     def begin_with(self, lines: List[str], told: bytes, strange: Set[Name]) -> None:
         """Takes in what another member of this program holds, as at a start from a record, before all else: lines, and the same after `held`."""
-        drew = [line for line in self.host.take_all(told) if line.startswith(b"drew ")]
-        if len(drew) < len(lines):
-            raise BoardFault("the host did not take what another holds")
-        self.due, self.strange, self.unkept = self.host.due, set(strange), list(lines)
+        self.strange, self.unkept = set(strange), list(lines)
         self.keep([])
+        try:
+            printed = self.host.take_all(told)
+        except HostEnded:
+            return self.start_again()
+        if [line[:5] for line in printed].count(b"drew ") < len(lines):
+            raise BoardFault("the host did not take what another holds")
+        self.due = self.host.due
 
     def line_of_time(self, now: int, time_of_day: int) -> str:
         """The line that gives the host the time of day at a moment."""

@@ -1,7 +1,6 @@
 """The drawops that the host holds, by page. What of them a page shows, the host says (showing.py)."""
 from __future__ import annotations
 
-from itertools import islice
 from typing import Dict, List, Optional, Set
 
 from .clock import SECOND
@@ -13,6 +12,7 @@ class Sheet:
 
     def __init__(self) -> None:
         self.drawops: Dict[Name, Drawop] = {}
+        self.order: List[Drawop] = []
         self.tops: Dict[int, int] = {}  # the greatest number of each source
         self.counts: Dict[int, int] = {}  # how many of each source
         self.begun = 0  # the least time of its drawops
@@ -26,6 +26,7 @@ class Sheet:
             return False
         self.begun = min(self.begun, drawop.time) if self.drawops else drawop.time
         self.drawops[drawop.name] = drawop
+        self.order.append(drawop)
         if drawop.kind != "delete":
             self.last = max(self.last, drawop.time)
         if not drawop.is_drawing():
@@ -37,7 +38,7 @@ class Sheet:
     def copy(self) -> Sheet:
         """The same for another member, which goes on by itself."""
         made = Sheet()
-        vars(made).update(vars(self), drawops=dict(self.drawops), tops=dict(self.tops), counts=dict(self.counts),
+        vars(made).update(vars(self), drawops=dict(self.drawops), order=list(self.order), tops=dict(self.tops), counts=dict(self.counts),
                           aimed={name: list(each) for name, each in self.aimed.items()})
         return made
 
@@ -116,8 +117,8 @@ class Drawn:
         return sum(sheet.tops.values()) - len(sheet.drawops)
 
     def all(self) -> List[Drawop]:
-        return [drawop for sheet in list(self.pages.values()) for drawop in list(sheet.drawops.values())]
+        return [drawop for sheet in list(self.pages.values()) for drawop in list(sheet.order)]
 
     def beyond(self, other: Drawn) -> List[Drawop]:
         """What came here since that was a copy."""
-        return [drawop for page, sheet in self.pages.items() for drawop in islice(sheet.drawops.values(), other.count(page), None)]
+        return [drawop for page, sheet in self.pages.items() for drawop in sheet.order[other.count(page):]]

@@ -15,7 +15,7 @@ from .heard import Heard, Other
 from .inbox import Arrival
 from .joining import Joining
 from .tails import Tails
-from .views import Datagram, Drawop, Name, Report, datagram_of, name_of
+from .views import Datagram, Drawop, Name, Report, name_of
 
 if TYPE_CHECKING:
     from .member import Member
@@ -79,7 +79,7 @@ class Judging:
             entry = member.wire.came(arrival, told.words)
             sent: List[str] = []
             if not arrival.is_lost:
-                entry["refused"] = told.fault if told.words is None else self.heed(datagram_of(told.words, each), each, arrival.origin, sent)
+                entry["refused"] = told.fault if told.words is None else self.heed(member.words.read(each, told.words), each, arrival.origin, sent)
             member.wire.tell(entry)
             member.send_all(sent)
 

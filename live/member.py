@@ -62,6 +62,7 @@ class Member:
         self.page = FIRST_PAGE
         self.has_turned = False  # until then it goes where something is drawn
         self.is_ready = False
+        self.is_seen = True  # somebody may look at it
         self.may_clear = True  # whether its windows offer to clear pages
         self.others_may: Optional[bool] = None  # of who keeps the board: whether those of others do
         self.keeper: Optional[Member] = None  # of one of a browser: the one that keeps the board
@@ -144,7 +145,8 @@ class Member:
         if arrivals:
             self.judging.arrive(arrivals)
         self.pass_time()
-        self.telling.tell()
+        if self.is_seen:
+            self.telling.tell()
         self.presence.tell_due()
         if time.monotonic() - self.synced_at >= 1:
             self.board.sync()
@@ -154,7 +156,7 @@ class Member:
         """Until the first thing that is due; a second at most."""
         moments = [moment for moment, _ in self.judging.plan()]
         until = self.board.clock.seconds_until(min(moments)) if moments else 1.0
-        return min(1.0, max(0.001, until), self.telling.seconds_to_wait(), self.presence.seconds_to_wait())
+        return min(1.0, max(0.001, until), self.telling.seconds_to_wait() if self.is_seen else 1.0, self.presence.seconds_to_wait())
 
     def pass_time(self) -> None:
         """Does what is due."""

@@ -70,6 +70,11 @@ class Drawop:
         source, seq = self.words.split(" ")[6:8]
         return int(source), self.name[1], int(seq)
 
+    def begins_within(self, columns: int, rows: int) -> bool:
+        """Whether a drawing may cover one of the first columns and rows."""
+        numbers = [int(word) for word in self.words.split(" ", 10)[6:8 if self.kind == "text" else 10]]
+        return min(numbers[::2]) < columns and min(numbers[1::2]) < rows
+
     def fields(self) -> Dict[str, Any]:
         """What a page of a browser gets of it."""
         rest = self.words.split(" ", 6)[6]
