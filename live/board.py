@@ -230,8 +230,7 @@ class Board:
 
     def begin_with(self, lines: List[str], told: bytes, strange: Set[Name]) -> None:
         """Takes in what another member of this program holds, as at a start from a record, before all else: lines, and the same after `held`."""
-        self.strange, self.unkept = set(strange), list(lines)
-        self.keep([])
+        self.strange, self.record.given = set(strange), lines
         try:
             printed = self.host.take_all(told)
         except HostEnded:

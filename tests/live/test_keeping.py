@@ -209,6 +209,7 @@ def test_strange(facts: Facts, tmp_path: Path) -> None:
     third.host.process.kill()
     third.begin_with(lines, b"".join(b"held %s\n" % line.encode() for line in lines), board.strange)
     facts("one whose host ends meanwhile has them by the next host", (third.tell("list 9").lines, third.strange), (["list 1", "1 1 2"], {name}))
+    facts("and its record has them after the line of the board", third.record.text().split(b"\n")[2:4], [line.encode() for line in lines])
     board.renumber(9, str(tmp_path / "9.wb"), held)
     facts("under another number", (board.me, board.strange, [line.split(" ")[0] for line in board.record.acts()]), (9, {name}, ["board", "tick", "datagram", "draw"]))
     for each in (board, other, third):
