@@ -235,6 +235,17 @@ class Board:
         for drawop, _ in new:
             self.listener(drawop)
 
+    def begin_with(self, lines: List[str], told: bytes, strange: Set[Name]) -> None:
+        """Takes in what another member of this program holds, as at a start from a record, before all else: lines, and the same after `held`."""
+        self.strange, self.record.given = set(strange), lines
+        try:
+            printed = self.host.take_all(told)
+        except HostEnded:
+            return self.start_again()
+        if [line[:5] for line in printed].count(b"drew ") < len(lines):
+            raise BoardFault("the host did not take what another holds")
+        self.due = self.host.due
+
     def line_of_time(self, now: int, time_of_day: int) -> str:
         """The line that gives the host the time of day at a moment."""
         self.wall, self.wall_at = time_of_day, now

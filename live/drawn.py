@@ -1,7 +1,7 @@
 """The drawops that the host holds, by page. What of them a page shows, the host says (showing.py)."""
 from __future__ import annotations
 
-from typing import Dict, Iterable, List, Optional, Set
+from typing import Dict, List, Optional, Set
 
 from .clock import SECOND
 from .views import Drawop, Name, Page
@@ -12,6 +12,7 @@ class Sheet:
 
     def __init__(self) -> None:
         self.drawops: Dict[Name, Drawop] = {}
+        self.order: List[Drawop] = []
         self.tops: Dict[int, int] = {}  # the greatest number of each source
         self.counts: Dict[int, int] = {}  # how many of each source
         self.begun = 0  # the least time of its drawops
@@ -25,6 +26,7 @@ class Sheet:
             return False
         self.begun = min(self.begun, drawop.time) if self.drawops else drawop.time
         self.drawops[drawop.name] = drawop
+        self.order.append(drawop)
         if drawop.kind != "delete":
             self.last = max(self.last, drawop.time)
         if not drawop.is_drawing():
@@ -32,6 +34,13 @@ class Sheet:
         self.tops[source] = max(seq, self.tops.get(source, 0))
         self.counts[source] = 1 + self.counts.get(source, 0)
         return True
+
+    def copy(self) -> Sheet:
+        """The same for another member, which goes on by itself."""
+        made = Sheet()
+        vars(made).update(vars(self), drawops=dict(self.drawops), order=list(self.order), tops=dict(self.tops), counts=dict(self.counts),
+                          aimed={name: list(each) for name, each in self.aimed.items()})
+        return made
 
     def eraser(self, name: Name) -> Optional[Drawop]:
         """The delete that took a drawing away: the first after its last restore."""
@@ -72,6 +81,11 @@ class Drawn:
     def add(self, drawop: Drawop) -> None:
         self.total += self.pages.setdefault(drawop.name[1], Sheet()).add(drawop)
 
+    def copy(self) -> Drawn:
+        made = Drawn()
+        made.pages, made.total = {page: sheet.copy() for page, sheet in self.pages.items()}, self.total
+        return made
+
     def sheet(self, page: Page) -> Sheet:
         """A page, to be looked at alone."""
         return self.pages.get(page, NOTHING)
@@ -102,5 +116,9 @@ class Drawn:
         sheet = self.sheet(page)
         return sum(sheet.tops.values()) - len(sheet.drawops)
 
-    def all(self) -> Iterable[Drawop]:
-        return [drawop for sheet in list(self.pages.values()) for drawop in list(sheet.drawops.values())]
+    def all(self) -> List[Drawop]:
+        return [drawop for sheet in list(self.pages.values()) for drawop in list(sheet.order)]
+
+    def beyond(self, other: Drawn) -> List[Drawop]:
+        """What came here since that was a copy."""
+        return [drawop for page, sheet in self.pages.items() for drawop in sheet.order[other.count(page):]]

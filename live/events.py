@@ -6,7 +6,8 @@ from __future__ import annotations
 import json
 import threading
 from collections import deque
-from typing import TYPE_CHECKING, Any, Deque, Dict, List, Optional, Sequence, Tuple
+from itertools import takewhile
+from typing import TYPE_CHECKING, Any, Callable, Deque, Dict, List, Optional, Sequence, Tuple, TypeVar
 
 from .views import Drawop
 
@@ -35,7 +36,7 @@ def compact(value: Any) -> str:
 
 
 class Whole:
-    """All of a page at some time. Its JSON is made when it is first asked for."""
+    """All of a page at some time. Its JSON is made for the view that needs it, and not remembered: it is long."""
 
     def __init__(self, turn: int, version: int, head: Dict[str, Any], drawops: Sequence[Drawop], hidden: Sequence[Erased]) -> None:
         self.turn = turn
@@ -43,15 +44,10 @@ class Whole:
         self.head = head
         self.drawops = drawops
         self.hidden = hidden
-        self.making = threading.Lock()
-        self.made: Optional[str] = None
 
     def text(self) -> str:
-        with self.making:
-            if self.made is None:
-                drawops, hidden = ",".join([drawop.text() for drawop in self.drawops]), ",".join([erased.text() for erased in self.hidden])
-                self.made = compact(self.head)[:-1] + ',"drawops":[%s],"hidden":[%s]}' % (drawops, hidden)
-            return self.made
+        drawops, hidden = ",".join([drawop.json or drawop.text() for drawop in self.drawops]), ",".join([erased.text() for erased in self.hidden])
+        return compact(self.head)[:-1] + ',"drawops":[%s],"hidden":[%s]}' % (drawops, hidden)
 
 
 class Events:
@@ -59,42 +55,51 @@ class Events:
 
     def __init__(self) -> None:
         self.changed = threading.Condition()
-        self.states: Dict[str, Tuple[int, str]] = {}
-        self.entries: Deque[Tuple[int, str]] = deque(maxlen=MOST_ENTRIES)
+        self.told: Dict[str, Dict[str, Any]] = {}
+        self.states: Dict[str, Tuple[int, str]] = {}  # the same as JSON, and the version of each
+        self.entries: Deque[Tuple[int, Dict[str, Any]]] = deque(maxlen=MOST_ENTRIES)
         self.page: Optional[Whole] = None
+        self.page_version = 0  # of the page in view now, which the changes since that whole make of it
         self.changes: Deque[Tuple[int, str]] = deque()
+        self.bytes = 0  # of these
         self.version = 0
         self.is_ended = False
 
     def tell(self, name: str, state: Dict[str, Any]) -> None:
         """The state of a thing from now on."""
-        text = compact(state)
+        if self.told.get(name) == state:
+            return
+        self.told[name], text = state, compact(state)
         with self.changed:
-            if name in self.states and self.states[name][1] == text:
-                return
             self.version += 1
             self.states[name] = self.version, text
             self.changed.notify_all()
 
-    def tell_page(self, page: Whole, change: Optional[Dict[str, Any]]) -> None:
-        """The page in view from now on, and what of it changed since the version before; None where it is another page."""
-        text = None if change is None else change_text(change)
+    def tell_page(self, page: Whole) -> None:
+        """Another page is in view from now on."""
         with self.changed:
-            if text is None:
-                self.changes.clear()
-            else:
-                self.changes.append((page.version, text))
-            while len(self.changes) > MOST_CHANGES or len(self.changes) > 1 and sum(len(each) for _, each in self.changes) > MOST_BYTES:
-                self.changes.popleft()
-            self.page = page
+            self.changes.clear()
+            self.bytes = 0
+            self.page, self.page_version = page, page.version
+            self.changed.notify_all()
+
+    def tell_change(self, version: int, change: Dict[str, Any], whole: Callable[[], Whole]) -> None:
+        """What of the page changed since the version before. The whole page is asked for if views that begin need it anew: not all that changed since
+        it was asked for is remembered."""
+        text = change_text(change)
+        with self.changed:
+            self.page_version = version
+            self.changes.append((version, text))
+            self.bytes += len(text)
+            while len(self.changes) > MOST_CHANGES or len(self.changes) > 1 and self.bytes > MOST_BYTES:
+                self.bytes -= len(self.changes.popleft()[1])
+            if self.page is None or self.changes[0][0] > self.page.version + 1:
+                self.page = whole()
             self.changed.notify_all()
 
     def tell_entry(self, entry: Dict[str, Any]) -> None:
-        """A datagram went by."""
-        text = compact(entry)
-        with self.changed:
-            self.entries.append((entry["id"], text))
-            self.changed.notify_all()
+        """A datagram went by. Views get it with what else is new: twice a second at least, since the counts are others then."""
+        self.entries.append((entry["id"], entry))
 
     def end(self) -> None:
         with self.changed:
@@ -108,6 +113,14 @@ def change_text(change: Dict[str, Any]) -> str:
     hidden = ",".join(erased.text() for erased in change["hidden"])
     rest = {name: value for name, value in change.items() if name not in ("added", "hidden")}
     return compact(rest)[:-1] + ',"added":[%s],"hidden":[%s]}' % (added, hidden)
+
+
+T = TypeVar("T")
+
+
+def newer(many: Deque[Tuple[int, T]], seen: int) -> List[T]:
+    """Those that came after one that was seen."""
+    return [each for _, each in takewhile(lambda told: told[0] > seen, reversed(many))][::-1]
 
 
 class Watcher:
@@ -128,15 +141,16 @@ class Watcher:
         told = [name for name in NAMES + OTHERS if name in events.states and events.states[name][0] > self.seen.get(name, 0)]
         news = [(name, events.states[name][1]) for name in told]
         self.seen.update((name, events.states[name][0]) for name in told)
-        changes = [text for version, text in events.changes if version > self.version]
-        is_whole = self.turn != page.turn or len(changes) != page.version - self.version
-        self.turn, self.version = page.turn, page.version
-        if not is_whole:
-            news += [("change", text) for text in changes]
-        entries = [text for number, text in events.entries if number > self.last_entry]
+        changes = newer(events.changes, self.version)
+        is_whole = self.turn != page.turn or len(changes) != events.page_version - self.version
+        if is_whole:
+            changes = newer(events.changes, page.version)
+        self.turn, self.version = page.turn, events.page_version
+        news += [("change", text) for text in changes]
+        entries = newer(events.entries, self.last_entry)
         if entries:
             self.last_entry = events.entries[-1][0]
-            news.append(("wire", '{"entries":[%s]}' % ",".join(entries)))
+            news.append(("wire", compact({"entries": entries})))
         return news, page if is_whole else None
 
     def wait(self, seconds: float) -> Optional[News]:

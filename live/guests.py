@@ -8,6 +8,7 @@ import threading
 import time
 from collections import Counter
 from concurrent.futures import TimeoutError as TooLate
+from functools import partial
 from typing import Dict, List, Optional
 
 from wbhost import HostEnded
@@ -16,8 +17,10 @@ from .board import BoardFault
 from .carriers.hub import Hub
 from .carriers.worse import Worse
 from .events import Events
+from .given import Given, Giving
 from .judging import Judging
 from .member import Member
+from .people import Refused
 from .proving import Stage
 from .record import NoRoom, Record, RecordFault
 from .state import random_number
@@ -27,7 +30,7 @@ from .state import random_number
 AWAY = 60.0
 NEVER_LOOKED = 10.0
 IDLE = 600.0
-PATIENCE = 10.0
+PATIENCE = 30.0
 
 # windows that look at one member at a time
 MOST_WINDOWS = 8
@@ -37,7 +40,7 @@ MOST_NEW = 32
 NEW_PAUSE = 2.0
 
 # what ends a member, and no other
-FAULTS = (BoardFault, HostEnded, NoRoom, OSError, RecordFault)
+FAULTS = (BoardFault, HostEnded, NoRoom, OSError, RecordFault, Refused, TooLate)
 
 # seconds that all members together may take to end
 FAREWELL = 5.0
@@ -55,9 +58,6 @@ class Guest:
         number = keeper.kept.guests.get(cookie)
         self.keeps = False  # the window of who keeps the board
         self.cookie = secrets.token_hex(16) if number is None else cookie
-        self.is_returning = number is not None
-        self.had = [] if number is None else keeper.drawops_of(keeper.kept.drawn_by(number))
-        self.is_whole = threading.Event()  # it has been given what is held
         self.address = address
         self.events = Events()
         self.counting = threading.Lock()
@@ -66,6 +66,7 @@ class Guest:
         self.seen_at = time.monotonic()
         options = copy.copy(keeper.options)
         options.me = None  # names the keeper alone
+        options.cells = keeper.board.cells
         carrier = Worse(hub.place(), options)
         record = Record(None)
         try:
@@ -79,10 +80,6 @@ class Guest:
         self.member.board.sync_kept = keeper.kept.sync
         self.member.streams = keeper.streams
         self.member.stage = keeper.stage
-
-    def may_draw(self) -> bool:
-        """Whether it can give no number twice: who returns waits until it has what it had drawn."""
-        return not self.is_returning or self.is_whole.wait(PATIENCE)
 
     def look(self) -> int:
         """One window more looks at it: how many do now. 0 if that were too many."""
@@ -112,6 +109,7 @@ class Guests:
     def __init__(self, keeper: Member, hub: Hub) -> None:
         self.keeper = keeper
         self.hub = hub
+        self.giving = Giving(keeper)
         self.most = keeper.options.guests
         self.changed = threading.Lock()
         self.guests: Dict[str, Guest] = {}
@@ -155,7 +153,6 @@ class Guests:
             thread = threading.Thread(target=self.run, args=(guest,), name=guest.cookie, daemon=True)
             self.threads = [each for each in self.threads if each.is_alive()] + [thread]
             thread.start()
-        self.hand_over(guest)
         return guest
 
     def let_clear(self, others: bool) -> Dict[str, bool]:
@@ -198,31 +195,32 @@ class Guests:
         most, count = counts.most_common(1)[0]
         return [guest for guest in self.guests.values() if guest.address == most] if count > counts[address] + 1 else []
 
-    def hand_over(self, guest: Guest) -> None:
-        """Gives a new member all that is held, so that it has to ask for nothing. If that takes too long, it asks; one that had drawn before is none
-        then, since it might give a number twice."""
-        keeper, member = self.keeper, guest.member
-        try:
-            drawops, strange = keeper.people.call(keeper.judging.given).result(PATIENCE)
-            taken = member.people.call(member.judging.take_over, [*drawops, *guest.had], strange)
-            if guest.is_returning:
-                taken.result(PATIENCE)
-        except TooLate:
-            if guest.is_returning:
-                member.end()
-                raise NoPlace("the board is busy: open the page anew") from None
-        guest.had = []
-        guest.is_whole.set()
-
     def run(self, guest: Guest) -> None:
         """The thread of a member. One whose host can't be started again is gone; the others go on."""
         try:
-            guest.member.run()
+            guest.member.run(partial(self.hand_over, guest.member))
         except FAULTS as fault:
             self.keeper.alarms.warn("the member %d of a browser ended: %s" % (guest.member.me, fault))
         finally:
             self.guests.pop(guest.cookie, None)
             guest.events.end()
+
+    def hand_over(self, member: Member) -> None:
+        """Gives a new member all that is held, before it hears or says anything."""
+        given = self.keeper.people.call(self.giving.give).result(PATIENCE)
+        member.begin_with(given)
+        member.inbox.call(partial(self.hand_on, member, given))
+
+    def hand_on(self, member: Member, given: Given) -> None:
+        """Now that it hears the others itself, the keeper gives it what came meanwhile: once it has taken in what waits there."""
+        keeper = self.keeper
+
+        def give() -> None:
+            rest = keeper.drawn.beyond(given.drawn)
+            if rest:
+                member.people.call(member.judging.take_over, rest, set(keeper.board.strange))
+
+        keeper.inbox.call(lambda: keeper.inbox.call(give))
 
     def take_stage(self, stage: Stage) -> None:
         """Hands on how far the proof is, and which build is there now."""

@@ -15,7 +15,7 @@ from .heard import Heard, Other
 from .inbox import Arrival
 from .joining import Joining
 from .tails import Tails
-from .views import SESSION, Datagram, Drawop, Name, Report, datagram_of, name_of
+from .views import SESSION, Datagram, Drawop, Name, Report, name_of
 
 if TYPE_CHECKING:
     from .member import Member
@@ -79,7 +79,7 @@ class Judging:
             entry = member.wire.came(arrival, told.words)
             sent: List[str] = []
             if not arrival.is_lost:
-                entry["refused"] = told.fault if told.words is None else self.heed(datagram_of(told.words, each), each, arrival.origin, sent)
+                entry["refused"] = told.fault if told.words is None else self.heed(member.words.read(each, told.words), each, arrival.origin, sent)
             member.wire.tell(entry)
             member.send_all(sent)
 
@@ -144,10 +144,6 @@ class Judging:
         member.send_all(sent)
 
     # ---- from one member of this program to another
-
-    def given(self) -> Tuple[List[Drawop], Set[Name]]:
-        """All that is held, and what of it no member gave."""
-        return list(self.member.drawn.all()), set(self.member.board.strange)
 
     def take_over(self, drawops: List[Drawop], strange: Set[Name]) -> None:
         """Takes in what another member of this program holds."""

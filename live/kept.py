@@ -15,7 +15,7 @@ from contextlib import contextmanager
 from typing import Dict, Iterator, List, Optional
 
 from .record import NoRoom, RecordFault
-from .views import name_of
+from .views import NAMED
 
 FIRST_LINE = "# wb page 1"
 LINE = re.compile(r"key ([0-9a-f]{32})|guest ([0-9a-f]{32}) ([0-9]{1,10})|asked ([A-Za-z0-9_-]{1,40}) ((?:[0-9a-f]{2})+)")
@@ -186,7 +186,8 @@ class Kept:
 
     def drawn_by(self, number: int) -> List[str]:
         """What a browser of this number had drawn."""
-        return [digits for digits in list(self.asked.values()) if (name_of(digits) or (None,))[0] == number]
+        source = "%08x" % number
+        return [digits for digits in list(self.asked.values()) if digits[NAMED[0]:NAMED[1]] == source]
 
 
 def path_beside(path: Optional[str]) -> Optional[str]:

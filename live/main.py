@@ -89,6 +89,7 @@ def join(options: Options, program: str, events: Events, held: ExitStack) -> Tup
         held.callback(offer.end)
         offer.begin()
     guests = Guests(member, hub) if hub else None
+    member.is_seen = not guests or options.terminal
     if guests:
         held.callback(guests.end)
     return member, guests

@@ -6,17 +6,18 @@ import os
 import time
 from contextlib import ExitStack
 from functools import partial
-from typing import Any, Dict, List, Optional, Sequence, Set, Union
+from typing import Any, Callable, Dict, List, Optional, Sequence, Set, Union
 
 from wbhost import Block, HostEnded
 
 from .alarms import Alarms
-from .board import Board
+from .board import Board, nothing
 from .carriers.carrier import MOST_BYTES, Carrier, Origin
 from .carriers.mqtt import GONE
 from .digests import MARK as DIGESTS, Digests
 from .drawn import Drawn
 from .events import Events
+from .given import Given
 from .inbox import MOST_WAITING, Inbox
 from .joining import Streams
 from .judging import Judging
@@ -28,7 +29,7 @@ from .presence import Pointed, Presence, write
 from .record import Record
 from .replay import Playing
 from .telling import Telling
-from .views import Drawop, Name, Page, name_of, reported_in
+from .views import NOTES, Drawop, Name, Page, name_of, reported_in
 from .wire import Wire
 from .words import Words
 
@@ -36,9 +37,8 @@ from .words import Words
 # people want a new one.
 MOST_PARTINGS, PARTED_LATELY = 8, 3600.0
 
-# the page that is in view at first, and the one that a convention reserves for names, titles and the chat
+# the page that is in view at first
 FIRST_PAGE: Page = (1, 1)
-NOTES: Page = (0, 0)
 
 # the name of no drawop
 NOTHING: Name = (0, NOTES, 0)
@@ -63,6 +63,7 @@ class Member:
         self.page = FIRST_PAGE
         self.has_turned = False  # until then it goes where something is drawn
         self.is_ready = False
+        self.is_seen = True  # somebody may look at it
         self.may_clear = True  # whether its windows offer to clear pages
         self.others_may: Optional[bool] = None  # of who keeps the board: whether those of others do
         self.keeper: Optional[Member] = None  # of one of a browser: the one that keeps the board
@@ -88,14 +89,25 @@ class Member:
         lacking = [digits for digits in kept.asked.values() if not self.drawn.holds(name_of(digits) or NOTHING)]
         self.board.take_over(self.drawops_of(lacking), set())
 
+    def begin_with(self, given: Given) -> None:
+        """Before it runs it has what another member of this program holds, and what was drawn under its number."""
+        self.board.begin_with(given.lines, given.told, given.strange)
+        self.drawn = given.drawn.copy()
+        if given.showing:
+            self.page = given.showing.page
+            self.telling.begin_with(given.showing)
+        had = [digits for digits in self.kept.drawn_by(self.me) if not self.drawn.holds(name_of(digits) or NOTHING)]
+        self.board.take_over(self.drawops_of(had), set())
+
     def drawops_of(self, many: Sequence[str]) -> List[Drawop]:
         return [Drawop(told.words, digits) for digits, told in zip(many, self.words.all(many)) if told.words]
 
     # ---- the loop
 
-    def run(self) -> None:
-        """Goes on until it is ended. Whatever ends it, nothing of it stays behind."""
+    def run(self, begin: Callable[[], None] = nothing) -> None:
+        """Begins, and goes on until it is ended. Whatever ends it, nothing of it stays behind."""
         try:
+            begin()
             self.go_on()
             self.board.end()
         finally:
@@ -139,7 +151,8 @@ class Member:
         if arrivals:
             self.judging.arrive(arrivals)
         self.pass_time()
-        self.telling.tell()
+        if self.is_seen:
+            self.telling.tell()
         self.presence.tell_due()
         if time.monotonic() - self.synced_at >= 1:
             self.board.sync()
@@ -149,7 +162,7 @@ class Member:
         """Until the first thing that is due; a second at most."""
         moments = [moment for moment, _ in self.judging.plan()]
         until = self.board.clock.seconds_until(min(moments)) if moments else 1.0
-        return min(1.0, max(0.001, until), self.telling.seconds_to_wait(), self.presence.seconds_to_wait())
+        return min(1.0, max(0.001, until), self.telling.seconds_to_wait() if self.is_seen else 1.0, self.presence.seconds_to_wait())
 
     def pass_time(self) -> None:
         """Does what is due."""

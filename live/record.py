@@ -7,6 +7,7 @@ from __future__ import annotations
 import contextlib
 import errno
 import fcntl
+import itertools
 import os
 import re
 import stat
@@ -160,6 +161,7 @@ class Record:
             os.close(self.file)
             raise
         self.is_named = False  # whether its name is on the disk too, where it may be new
+        self.given: List[str] = []  # lines that it shares with others: they stand after that of the board, and in no file
 
     def open(self, path: Optional[str]) -> int:
         if path is None:
@@ -196,11 +198,17 @@ class Record:
         return start + end
 
     def acts(self) -> Iterator[Act]:
-        return acts_of(self.file, self.path)
+        acts = acts_of(self.file, self.path)
+        yield from itertools.islice(acts, 1)
+        yield from map(Act, self.given)
+        yield from acts
 
     def text(self) -> bytes:
-        """All of the file."""
-        return os.pread(self.file, self.size, 0)
+        """All of it."""
+        text = os.pread(self.file, self.size, 0)
+        head = HEAD.match(text)
+        end = head.end() if head else 0
+        return text[:end] + "".join([line + "\n" for line in self.given]).encode("latin-1") + text[end:]
 
     def first(self) -> Optional[str]:
         """The line of the board, where there is one."""

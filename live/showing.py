@@ -1,7 +1,7 @@
 """What a page shows, as the host says it: it is asked for what the page shows otherwise than when it was asked last."""
 from __future__ import annotations
 
-from itertools import dropwhile, islice
+from itertools import dropwhile
 from typing import TYPE_CHECKING, Dict, Iterable, List, NamedTuple, Optional, Set, Tuple
 
 from .drawn import Sheet
@@ -50,6 +50,11 @@ class Change(NamedTuple):
     added: List[Tuple[int, Drawop]]
     hidden: List[Erased]
 
+    def may_be_painted(self, columns: int, rows: int) -> bool:
+        """Whether something of it may lie on the first columns and rows, where ink never does."""
+        drawings = [*(drawop for _, drawop in self.added), *(erased.drawop for erased in self.hidden)]
+        return len(drawings) < len(self.names) or any(drawop.begins_within(columns, rows) for drawop in drawings)
+
 
 NO_CHANGE = Change([], [], [])
 
@@ -65,16 +70,22 @@ class Showing:
         self.names: Set[Name] = set()  # of these
         self.hidden: Dict[Name, Erased] = {}
 
+    def copy(self) -> Showing:
+        """The same for another host that holds the same drawops, which shows the same."""
+        made = Showing(self.page)
+        vars(made).update(vars(self), shown=list(self.shown), names=set(self.names), hidden=dict(self.hidden))
+        return made
+
     def renew(self, board: Board, sheet: Sheet) -> Change:
         """Asks the host once more. What was shown and still is has not changed, though the host may say it."""
         since, held = board.since(self.page, self.held), sheet.drawops
         stays = {name for _, name, _ in since.shown} & self.names
         added = [(place, held.get(name) or Drawop(words)) for place, name, words in since.shown if name not in stays]
-        gone, names = since.hidden & self.names - stays, stays.union(drawop.name for _, drawop in added)
-        new = list(islice(held.values(), self.seen, None))
+        gone, names = (since.hidden & self.names) - stays, stays.union(drawop.name for _, drawop in added)
+        new = sheet.order[self.seen:]
         # What a hidden drawing's eraser did before may come after that. Then views get the hidden ones from there on anew, in their order.
         late = {drawop.aimed() for drawop in filter(None, map(sheet.after, new)) if not drawop.is_drawing()}
-        changed = touched(new, dropwhile(lambda name: name not in late, self.hidden))
+        changed = touched(new, dropwhile(lambda name: name not in late, self.hidden if late else ()))
         hidden = [erased_on(sheet, held[name]) for name in changed if name not in names and name in held and held[name].is_drawing()]
         change = Change([name for name in changed if name in gone or name in self.hidden], added, hidden)
         self.held, self.seen = since.held, len(held)

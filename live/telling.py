@@ -6,7 +6,7 @@ import secrets
 import time
 from typing import TYPE_CHECKING, Any, Dict, List, Optional, Set, Tuple
 
-from .board import COLUMNS
+from .board import COLUMNS, ROWS
 from .clock import SECOND
 from .drawn import Drawn
 from .events import Events, Whole, change_text
@@ -136,20 +136,24 @@ class Telling:
 
     def tell_board(self) -> None:
         """The whole of another page, and of one of which another host shows something else; and of the same what changed since."""
-        member = self.member
-        page, rows = self.showing(member.page), member.board.canvas(member.page)
+        member, page = self.member, self.showing(self.member.page)
         change = page.renew(member.board, member.drawn.sheet(page.page))
-        if page.is_as(self.page) and self.page is not page:
+        rows = member.board.canvas(page.page) if self.page is not page or change.may_be_painted(COLUMNS, ROWS) else self.rows
+        if self.page is not page and page.is_as(self.page):
             self.page, change = page, NO_CHANGE
         if self.page is not page:
             self.page, self.turn, self.version = page, self.turn + 1, 0
             self.are_pages_changed = True
             self.next_members = self.next_pages = 0.0
-            self.events.tell_page(self.whole(page, rows), None)
+            self.events.tell_page(self.whole(page, rows))
         elif any(change) or rows != self.rows:
             self.version += 1
-            self.events.tell_page(self.whole(page, rows), self.told_change(change, rows))
+            self.events.tell_change(self.version, self.told_change(change, rows), lambda: self.whole(page, rows))
         self.rows = rows
+
+    def begin_with(self, showing: Showing) -> None:
+        """What another host shows that holds the same."""
+        self.host, self.showings = self.member.board.host, {showing.page: showing.copy()}
 
     def showing(self, page: Page) -> Showing:
         """What a page shows, by the host of now."""

@@ -8,6 +8,9 @@ from typing import Any, Dict, List, Optional, Tuple, Union
 # of a page: its creator and its number
 Page = Tuple[int, int]
 
+# the page that a convention reserves for names, titles and the chat
+NOTES: Page = (0, 0)
+
 # of a drawop: its source, its page and its number there
 Name = Tuple[int, Page, int]
 
@@ -69,6 +72,11 @@ class Drawop:
         """What a delete or a restore is aimed at."""
         source, seq = self.words.split(" ")[6:8]
         return int(source), self.name[1], int(seq)
+
+    def begins_within(self, columns: int, rows: int) -> bool:
+        """Whether a drawing may cover one of the first columns and rows."""
+        numbers = [int(word) for word in self.words.split(" ", 10)[6:8 if self.kind == "text" else 10]]
+        return min(numbers[::2]) < columns and min(numbers[1::2]) < rows
 
     def fields(self) -> Dict[str, Any]:
         """What a page of a browser gets of it."""

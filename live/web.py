@@ -37,8 +37,10 @@ MOST_STREAMS = 128
 PATIENCE = 20
 DRAW_PATIENCE = 10
 
-# seconds between two messages of a stream, and until one that says nothing else shows that it is there
-PAUSE = 0.01
+# seconds between two messages of a stream, at least and at most: it takes one part in PART of the time, unless it is long; and until one that says
+# nothing else shows that it is there
+PAUSE, MOST_PAUSE = 0.01, 0.1
+PART = 6
 QUIET = 5.0
 
 # ports that the page tries first, so that its address stays
@@ -242,8 +244,6 @@ class Handler(BaseHTTPRequestHandler):
                 raise Fault(503, str(fault)) from fault
         if guest is None:
             raise Fault(403, "open the page anew: this browser has no member here")
-        if not guest.may_draw():
-            raise Fault(503, "busy")
         self.guest, self.member, self.events = guest, guest.member, guest.events
 
     def address(self) -> str:
@@ -360,6 +360,7 @@ class Handler(BaseHTTPRequestHandler):
         said = time.monotonic()
         while not has_ended(self.connection):
             news = watcher.wait(QUIET / 5)
+            began = time.monotonic()
             if news is None:
                 return
             if news:
@@ -369,7 +370,7 @@ class Handler(BaseHTTPRequestHandler):
             else:
                 self.wfile.write(frame(PING, b""))
             said = time.monotonic()
-            time.sleep(PAUSE)
+            time.sleep(min(MOST_PAUSE, max(PAUSE, (PART - 1) * (said - began))))
 
     def send_json(self, status: int, value: Dict[str, Any]) -> None:
         self.send_bytes("application/json", json.dumps(value).encode(), status=status)

@@ -6,6 +6,8 @@ from typing import Dict, List, NamedTuple, Optional, Sequence
 
 from wbhost import LINES, Child, HostEnded
 
+from .views import Datagram, datagram_of
+
 # a line of the program has 65,536 bytes at most
 MOST_DIGITS = 65_536 - len("send ")
 
@@ -45,6 +47,10 @@ class Words:
             self.last = digits
         return self.told
 
+    def read(self, digits: str, words: str) -> Datagram:
+        """A datagram by its words."""
+        return datagram_of(words, digits)
+
     def all(self, many: Sequence[str]) -> List[Wording]:
         """Many at a time, which takes less time than one after another."""
         return [told for start in range(0, len(many), LINES) for told in self.some(many[start:start + LINES])]
@@ -67,12 +73,13 @@ def wording_by(line: str) -> Wording:
 
 
 class SharedWords(Words):
-    """For many members of this program: each datagram comes to all of them, and is said once."""
+    """For many members of this program: each datagram comes to all of them, and is said and read once."""
 
     def __init__(self, program: str) -> None:
         super().__init__(program)
         self.lock = threading.Lock()
         self.remembered: Dict[str, Wording] = {}
+        self.datagrams: Dict[str, Datagram] = {}
 
     def end(self) -> None:
         """It ends with the program."""
@@ -85,6 +92,16 @@ class SharedWords(Words):
 
     def of(self, digits: str) -> Wording:
         return self.all([digits])[0]
+
+    def read(self, digits: str, words: str) -> Datagram:
+        found = self.datagrams.get(digits)
+        if found is None:
+            found = super().read(digits, words)
+            with self.lock:
+                found = self.datagrams.setdefault(digits, found)
+                while len(self.datagrams) > MOST_REMEMBERED:
+                    del self.datagrams[next(iter(self.datagrams))]
+        return found
 
     def all(self, many: Sequence[str]) -> List[Wording]:
         known = [self.remembered.get(digits) for digits in many]

@@ -176,8 +176,32 @@ class ChildHost(Child):
                 self.take("\n".join(lines).encode("latin-1"))
             return self.block(line)
 
+    def take_all(self, lines: bytes) -> List[bytes]:
+        """What it prints for many lines, each with its line feed, that show no canvas: it is not taken apart, which takes less time still."""
+        printed: List[bytes] = []
+        with self.lock:
+            if self.kept:
+                self.kept.write(lines)
+            for start in range(0, len(lines), PIECE):
+                self.outgoing += lines[start:start + PIECE]
+                self.write()
+                while self.outgoing:
+                    self.read()
+            left = lines.count(b"\n")
+            while left:
+                if not self.lines:
+                    self.read()
+                printed += self.lines
+                beginnings = [line[:3] for line in self.lines]
+                left -= beginnings.count(b"ok ") + beginnings.count(b"ref")
+                self.lines.clear()
+            self.due = block_of([line.decode("latin-1") for line in printed[-1:]], self.due).due if printed else self.due
+        return printed
+
     def ask_all(self, lines: Sequence[str]) -> List[Block]:
         """The block of each line. Many are given at a time, which takes less time than one after another."""
+        if len(lines) == 1:
+            return [self.ask(lines[0])]
         blocks: List[Block] = []
         with self.lock:
             for start in range(0, len(lines), LINES):

@@ -11,7 +11,7 @@ import pytest
 
 from wbhost import Host
 
-from live.board import Board
+from live.board import Board, line_of
 from live.carriers.carrier import Origin
 from live.held import held_of
 from live.options import read_options
@@ -205,9 +205,14 @@ def test_strange(facts: Facts, tmp_path: Path) -> None:
     other.take_over(held, board.strange)
     facts("another member has both, and what is strange", (len(told), other.strange), (2, {name}))
     facts("and so has its record", [line.split(" ")[0] for line in other.record.acts()], ["board", "datagram", "draw"])
+    third, lines = board_of(Record(None), told), [line_of(drawop, board.strange) for drawop in held]
+    third.host.process.kill()
+    third.begin_with(lines, b"".join(b"held %s\n" % line.encode() for line in lines), board.strange)
+    facts("one whose host ends meanwhile has them by the next host", (third.tell("list 9").lines, third.strange), (["list 1", "1 1 2"], {name}))
+    facts("and its record has them after the line of the board", third.record.text().split(b"\n")[2:4], [line.encode() for line in lines])
     board.renumber(9, str(tmp_path / "9.wb"), held)
     facts("under another number", (board.me, board.strange, [line.split(" ")[0] for line in board.record.acts()]), (9, {name}, ["board", "tick", "datagram", "draw"]))
-    for each in (board, other):
+    for each in (board, other, third):
         end(each)
 
 

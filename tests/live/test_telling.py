@@ -155,12 +155,35 @@ def test_turns(facts: Facts) -> None:
     facts("the rows stand after their marks", one.telling.events.page and one.telling.events.page.head, {"page": "7/1", "columns": COLUMNS, "rows": ["ok never"]})
     facts("what was seen of a page is not asked again", (turn(PAGE, "shown 0 " + first), turn(PAGE), one.host.told[-1]), (3, 3, "since 7 1 1"))
     begin_again()
-    facts("another host is asked for all", (turn(PAGE), one.host.told[-1]), (4, "since 7 1 0"))
+    facts("another host is asked for all", (turn(PAGE), one.host.told[-2:]), (4, ["since 7 1 0", "paint 7 1 200 100"]))
     begin_again()
     facts("one that shows the same tells nothing", (turn(PAGE), turn(PAGE, "shown 0 " + first)), (4, 4))
     facts("of another host nothing is remembered", list(one.telling.showings), [PAGE])
     last = [one.telling.showing((9, number)) for number in range(99)][-1]
     facts("and of few pages", (len(one.telling.showings), one.telling.showing((9, 98)) is last), (MOST_SHOWINGS, True))
+
+
+def test_paintings(facts: Facts) -> None:
+    """The host paints a page at first, and then when something may have changed in the part that it paints: ink lies below."""
+    one, held = Told(), 0
+    one.host.said["since"] = ["since 0 0"]
+    one.telling.tell_board()
+
+    def paints(words: str, *lines: str) -> bool:
+        nonlocal held
+        held += 1
+        one.drawn.add(Drawop(words))
+        one.host.told, one.host.said["since"] = [], ["since %d %d" % (held, len(lines)), *lines]
+        one.telling.tell_board()
+        return any(line.startswith("paint") for line in one.host.told)
+
+    ink, frame = 'draw 7 7/1 1 5 text 64 4000 "~s"', "draw 7 7/1 3 7 frame 300 4000 199 99 *"
+    facts("ink is not painted", paints(ink, "shown 0 " + ink), False)
+    facts("nor if it is deleted", paints("draw 7 7/1 2 6 delete 7 1", "hidden 7 1"), False)
+    facts("what ends in the part is", paints(frame, "shown 0 " + frame), True)
+    facts("and if it is deleted", paints("draw 7 7/1 4 8 delete 7 3", "hidden 7 3"), True)
+    beside = "draw 7 7/1 5 9 line 200 0 200 99 *"
+    facts("what is beside it is not", paints(beside, "shown 0 " + beside), False)
 
 
 class Page:
@@ -177,14 +200,14 @@ class Page:
 
     def turn_over(self) -> None:
         self.turn, self.version = self.turn + 1, 0
-        self.events.tell_page(Whole(self.turn, 0, {}, [], []), None)
+        self.events.tell_page(Whole(self.turn, 0, {}, [], []))
 
     def change(self, text: str = "") -> None:
         self.version += 1
-        self.events.tell_page(Whole(self.turn, self.version, {}, [], []), {"text": text, "added": [], "hidden": []})
+        self.events.tell_change(self.version, {"text": text, "added": [], "hidden": []}, lambda: Whole(self.turn, self.version, {}, [], []))
 
     def news(self) -> Tuple[int, bool]:
-        """How many changes are new to the watcher, and whether it gets the whole page instead."""
+        """How many changes are new to the watcher, and whether it gets the whole page before them."""
         news, page = self.watcher.news()
         return sum(name == "change" for name, _ in news), page is not None
 
@@ -201,7 +224,9 @@ def test_changes(facts: Facts) -> None:
     facts("one change may be long", page.news(), (1, False))
     for _ in range(2):
         page.change("x" * (MOST_BYTES // 2))
-    facts("of more only the last is remembered", (page.news(), len(page.events.changes)), ((0, True), 1))
+    facts("of more only the last is remembered, and the page before it", (page.news(), len(page.events.changes)), ((1, True), 1))
+    page.watcher = Watcher(page.events)
+    facts("so one who begins gets both", page.news(), (1, True))
     for _ in range(2):
         page.turn_over()
         facts("another page is told as a whole", page.news(), (0, True))
