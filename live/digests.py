@@ -20,7 +20,7 @@ MARK, VERSION = b"WD", 1
 FIRST, FACTOR, BITS = 0xCBF29CE484222325, 0x100000001B3, 0xFFFFFFFFFFFFFFFF
 
 # what others hold of a page: what we do; more or less, or not all that was drawn has come; or as many drawops as we, and others
-SAME, NOT_YET, ANOTHER = "same", "not yet", "another"
+SAME, NOT_YET, ANOTHER = "same", "not-yet", "another"
 
 # how many tellings in a row say that a page is another until the views say so: a drawing that is under way makes one
 TIMES = 2

@@ -290,14 +290,14 @@ class Session:
     # ---- the end
 
     def compare(self) -> None:
-        """Holds the canvases and reports of all members that are there at the end to be equal, and to lack nothing."""
+        """Holds the canvases, reports and digests of all members that are there at the end to be equal, and to lack nothing."""
         if lacking := self.lacking():
             raise Fault(f"members still lack drawops at {self.now} microseconds: {lacking} in all")
         there = [member for number, member in self.members.items() if self.is_there(number, self.now)]
         for member in there:
             member.give(self.waiting.pop(member.number, []), self.now, 0)
             member.take()
-        for question in (f"show {PAGE} {WIDTH} {HEIGHT}", f"report {PAGE}", f"gaps {PAGE}"):
+        for question in (f"show {PAGE} {WIDTH} {HEIGHT}", f"report {PAGE}", f"digest {PAGE}", f"gaps {PAGE}"):
             answers = [member.answer(question) for member in there]
             for member, answer in zip(there, answers):
                 if answer != answers[0]:

@@ -16,7 +16,7 @@ const MORE = [['lost', 'lostOnPurpose'], ['twice', 'twiceOnPurpose'], ['refused'
 
 /** What a member holds of the page in view, if it has told that.
  * @type {Record<import('./types.js').Holds, import('./language.js').Key>} */
-const HOLDS = { 'same': 'holdsSame', 'not yet': 'holdsNotYet', 'another': 'holdsAnother' };
+const HOLDS = { same: 'holdsSame', 'not-yet': 'holdsNotYet', another: 'holdsAnother' };
 
 /** @param {number} seconds */
 export function ago(seconds) {

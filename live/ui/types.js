@@ -25,7 +25,7 @@
  * @typedef {{ page: string, drawn: number, last?: string }} Leaf
  * @typedef {{ page: string, pages: Leaf[] }} Pages */
 /** What another holds of the page in view: what we do; not yet, since something is under way; or as many drawings as we, and others.
- * @typedef {'same' | 'not yet' | 'another'} Holds */
+ * @typedef {'same' | 'not-yet' | 'another'} Holds */
 /** Another member: the delay to it in milliseconds, how many seconds ago it was heard, and what it holds, if it has told that.
  * @typedef {{ member: number, delay?: number | null, heard?: number | null, page?: string | null, holds?: Holds | null }} Other */
 /** @typedef {{ members: Other[] }} Members */

@@ -115,7 +115,7 @@ def test_refusals(kept: ByBytes) -> None:
     assert kept.tick(9) == DONE
     assert (kept.tick(8), kept.came(8, good), kept.add(8, good)) == (BACK_IN_TIME,) * 3
     asked = [kept.calls.wb_ask(ctypes.byref(kept.held), *(ctypes.c_uint32(it) for it in (question, 7, 1, width, 5)))
-             for question, width in ((0, 5), (8, 5), (7, 0), (7, 201))]
+             for question, width in ((0, 5), (9, 5), (7, 0), (7, 201))]
     assert asked == [NO_QUESTION] * 4
     assert kept.events() == []
     kept.close()

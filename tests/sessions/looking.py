@@ -117,9 +117,9 @@ class Session:
                 if member.ask(f"gaps {page}") == ["gaps 0"]:
                     alike[tuple(member.ask(f"report {page}"))].append(member)
             for members in alike.values():
-                canvases = {tuple(m.ask(f"show {page} {WIDTH} {HEIGHT}")) for m in members}
+                canvases = {tuple(m.ask(f"show {page} {WIDTH} {HEIGHT}") + m.ask(f"digest {page}")) for m in members}
                 if len(canvases) > 1:
-                    raise Fault(f"members {[m.number for m in members]} report the same of page {page}, and show two canvases")
+                    raise Fault(f"members {[m.number for m in members]} report the same of page {page}, and show two canvases or have two digests")
                 self.compared += len(members) - 1
 
     def step(self, drawing: bool) -> None:

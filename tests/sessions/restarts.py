@@ -164,12 +164,13 @@ class Restarts:
         for member in self.members.values():
             for creator, number in PAGES:
                 place = f"{creator} {number}"
-                report, gaps, view = member.ask([f"report {place}", f"gaps {place}", f"view {place}"])
+                report, gaps, view, digest = member.ask([f"report {place}", f"gaps {place}", f"view {place}", f"digest {place}"])
                 if gaps.lines == ["gaps 0"]:
                     key = (place, *report.lines)
                     self.compared += key in self.views
-                    if self.views.setdefault(key, view.lines) != view.lines:
-                        raise Fault(f"member {member.number} has two views of page {place} for one report")
+                    shown = view.lines + digest.lines
+                    if self.views.setdefault(key, shown) != shown:
+                        raise Fault(f"member {member.number} has two views or two digests of page {place} for one report")
                     self.agreed(member, key)
 
     def agreed(self, member: Member, key: tuple[str, ...]) -> None:

@@ -62,8 +62,8 @@ export function inShort(marks) {
  * @param {Told} ours @param {Told} told @param {number} times @returns {Seen} */
 export function judged(ours, told, times) {
   if (told.digest === ours.digest) return { state: 'same', times: 0 };
-  if (told.marks !== ours.marks || told.missing || ours.missing) return { state: 'not yet', times: 0 };
-  return { state: times + 1 >= TIMES ? 'another' : 'not yet', times: times + 1 };
+  if (told.marks !== ours.marks || told.missing || ours.missing) return { state: 'not-yet', times: 0 };
+  return { state: times + 1 >= TIMES ? 'another' : 'not-yet', times: times + 1 };
 }
 
 /** Takes the first out of what is remembered if that is too much.
