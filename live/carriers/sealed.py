@@ -29,6 +29,10 @@ SEALED_KIND, TAGGED_KIND = 2, 3
 SENDER, COUNTER = 8, 8
 HEAD = 1 + SENDER + COUNTER
 
+# How a datagram begins that no key closed: it is dropped before anything is tried on it, since that costs more than all else. A sealed one begins with
+# random bytes, of which one in 300 million is dropped so, as if the network had lost it.
+PLAIN = {b"WB" + bytes([version, kind]) for version in (1, 2) for kind in range(1, 6)} | {b"WP\1\0", GONE}
+
 # senders that are remembered, and how far behind the greatest counter of one its datagrams may come
 MOST_SENDERS, BEHIND = 1_024, 64
 
@@ -155,7 +159,7 @@ class Sealed(Over):
         return self.under.where + (", tagged by a key" if self.seal.is_tagging else ", sealed by a key")
 
     def arrive(self, data: bytes, origin: Origin) -> None:
-        letter = self.seal.read(data)
+        letter = None if data[:4] in PLAIN or len(data) < HEAD + TAG else self.seal.read(data)
         if letter is None:
             self.inbox.miss()
         elif letter.sender != self.seal.sender and self.counters.is_new(letter.sender, letter.counter):

@@ -116,7 +116,12 @@ export class Notes {
     this.session = session;
     this.told = readNotes([]);
     /** How many drawops the reserved page has, how many it had when it was read, and what the member then said to ask with next. */
-    [this.drawn, this.read, this.since, this.isReading] = [0, 0, '', false];
+    this.drawn = 0;
+    this.read = 0;
+    this.since = '';
+    this.isReading = false;
+    /** Ends the pause before the next reading: what we say ourselves is read at once. */
+    this.hurry = () => {};
     /** What it shows, as far as it was read.
      * @type {Drawing[]} */
     this.drawops = [];
@@ -136,7 +141,10 @@ export class Notes {
         this.takeNews(news);
         this.read = drawn;
       }
-      await new Promise((go) => { setTimeout(go, PAUSE); });
+      await new Promise((/** @type {(value?: any) => void} */ go) => {
+        this.hurry = go;
+        setTimeout(go, PAUSE);
+      });
     }
     this.isReading = false;
   }
@@ -224,6 +232,7 @@ export class Notes {
     this.told.row += 1;
     const answer = await this.session.member.draw(NOTES, spell({ op: 'text', x: 0, y: row, text }));
     if (!answer.ok) this.session.emit('fault', wording('notTold', { why: retold(answer.fault) }));
+    this.hurry();
     return answer.ok;
   }
 }

@@ -238,6 +238,20 @@ def test_late_recording(facts: Facts, tmp_path: Path, tags: bool) -> None:
 # ---- tags
 
 
+def test_tries(facts: Facts) -> None:
+    """On what begins as a datagram does that no key closed, nothing is tried: it would cost the time of a processor."""
+    from live.carriers.sealed import Seal, Sealed
+
+    ours, wire, inbox, tried = Seal(new_key(tags=True), "board"), Wire(), Kept(), []  # type: Seal, Wire, Kept, List[bytes]
+    ours.read = lambda data: tried.append(data)  # type: ignore[assignment]
+    Sealed(wire, ours).begin(inbox)
+    plain = [each + bytes(40) for each in (drawn(7, 1, 2, 3, b"x"), session(7, 5), asking(7), b"WB\2\1", write(Pointed(7, (1, 1), (3, 4), [])), b"WG\1\0")]
+    closed = [bytes(40), b"WB\3\1" + bytes(40), b"WB" + bytes(40), b"\3" + bytes(32)]
+    for data in [*plain, *closed, bytes(32), b""]:
+        wire.inbox.arrive(data, HOME)
+    facts("what may be closed is tried, and all is counted", (tried, inbox.missed), (closed, len(plain) + len(closed) + 2))
+
+
 def test_tags(facts: Facts) -> None:
     """A key closes by a tag or by a seal, and opens both; nothing of one opens as something else."""
     from live.carriers.sealed import Letter, Seal, Sealed

@@ -43,7 +43,7 @@ def is_followed(tally: Tally, name: str, anna: Sheet, tom: Sheet, is_so: bool) -
 def test_faces(tally: Tally, anna: Sheet, tom: Sheet) -> None:
     tom.press(OTHERS_FACE)
     is_followed(tally, "one click follows", anna, tom, True)
-    tally.check("the frame has the name", "Anna Berg" in tom.text_of("following"), tom.text_of("following"))
+    tally.check("the frame has the name", tom.page.wait("document.getElementById('following').textContent.includes('Anna Berg')"), tom.text_of("following"))
     tom.press(OTHERS_FACE)
     is_followed(tally, "one more ends it", anna, tom, False)
     tom.unfold("#members button:not([hidden])")

@@ -60,7 +60,8 @@ def test_measures() -> None:
     marker, pressed, corners, head, dashes = (found[name] for name in ("MARKER", "PRESSED", "CORNERS", "HEAD", "DASHES"))
     told = " ".join((TOP / "docs" / "INK.md").read_text().split())
     wanted = [f"{marker['wide']} times as wide", f"at {100 * marker['dark']:.0f} in 100", f"`{pressed['least']} + {pressed['more']} p` times as wide", f"corners of {corners['frame']}, and of {corners['note']} units",
-              f"`max({head['least']}, {head['widths']} widths)` long, with {head['side']} radians", f"{dashes['long']} widths long, with gaps of {dashes['gap']}; only on lines below {dashes['most']:,} units",
+              f"`max({head['least']}, {head['widths']} widths)` long, with {head['side']} radians", f"{dashes['long']} widths long, with gaps of {dashes['gap']}; only on lines below {dashes['most']['line']:,} units",
+              f"and on shapes with corners less than {dashes['most']['shape']:,} apart",
               f"in size {found['IN_SHAPES']}, broken at spaces", f"A line is {found['LEADING']} sizes high"]
     assert [sentence for sentence in wanted if sentence not in told] == []
 

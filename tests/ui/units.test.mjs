@@ -227,6 +227,13 @@ async function testNews() {
     check('of another host all of it', [[...notes.told.names], notes.told.said], [[[1, 'Eve']], []]);
     await second();
     check('if nothing is new, nothing is asked', [asked.length, answers.length], [4, 4]);
+    look(61);
+    await answer({ since: 'b-2', whole: false, names: [], added: [[1, at(10, 'name Evi')]] });
+    notes.session.member.draw = async () => ({ ok: true });
+    await notes.name('Eve');
+    look(62);
+    await settle();
+    check('what we say ourselves is read at once', asked.length, 6);
   } finally {
     globalThis.setTimeout = setTimeout;
   }

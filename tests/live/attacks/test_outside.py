@@ -14,7 +14,8 @@ import tempfile
 import threading
 import time
 from pathlib import Path
-from typing import Any, Dict, Iterator, List, Optional, Tuple
+from types import SimpleNamespace
+from typing import Any, Dict, Iterator, List, Optional, Sequence, Tuple
 
 from live.carriers.sealed import HEAD, TAG, TAGGED_KIND, Seal
 from live.joining import QUESTION
@@ -24,7 +25,7 @@ from ...facts import Facts
 from .test_attacked import ALL_MEMBERS, LONG_SECONDS, LONG_SPEED, Attacks, check_attacked
 from .test_hostile import asking, drawn, framed
 from ..browser import Browser, find_chromium
-from ..members import Process, comes, program
+from ..members import TOP, Process, comes, program
 from ..test_strangers import Ear
 
 FIRST_PORT = 27_680
@@ -98,6 +99,31 @@ class Outside(Attacks):
                     link.sendall(QUESTION + os.urandom(40))
                     link.recv(64)
             time.sleep(0.2)
+
+
+def attack(places: List[Tuple[int, int]], numbers: List[int], hearer_port: int) -> None:
+    """Does so to the members at these ports, and those of their pages, until its input ends; prints how many datagrams it sent."""
+    ear = Ear(0, FIRST_PORT)
+    members: List[Any] = [SimpleNamespace(udp_port=udp_port, port=port) for udp_port, port in places]
+    with Outside(members, numbers, ear, hearer_port) as made:
+        print("begun", flush=True)
+        sys.stdin.read()
+    ear.end()
+    print(made.sent)
+
+
+@contextlib.contextmanager
+def outside(members: Sequence[Process], hearer_port: int) -> Iterator[List[str]]:
+    """The same in a process of its own, which takes nothing of the time of who watches; what it prints comes into the list at its end."""
+    words = [(member.udp_port, member.port) for member in members], [member.me for member in members], hearer_port
+    code, printed = "from tests.live.attacks.test_outside import attack; attack(*%r)" % (words,), []  # type: str, List[str]
+    with subprocess.Popen([sys.executable, "-c", code], cwd=TOP, stdin=subprocess.PIPE, stdout=subprocess.PIPE, text=True) as process:
+        assert process.stdout
+        process.stdout.readline()
+        try:
+            yield printed
+        finally:
+            printed += process.communicate("")[0].split()
 
 
 def echoing(me: int, report: bytes) -> bytes:
@@ -199,31 +225,28 @@ def longest_frame(page: Any) -> Any:
 
 
 def check_outside(facts: Facts, count: int, seconds: float, speed: int) -> None:
-    """So many members for so long without him, and then as long beside him, while another one joins them."""
-    with tempfile.TemporaryDirectory(prefix="wb-state-") as home, hearer() as (listener, port):
+    """N members for some seconds without him, and then as long beside him, while another one joins them."""
+    with tempfile.TemporaryDirectory(prefix="wb-state-") as home, hearer() as (listener, port), contextlib.ExitStack() as ended:
         words = ["--ports", str(FIRST_PORT), "--lose", "0.3334", "--twice", "0.1", "--mix", "--speed", str(speed)]
-        ear, members = Ear(0, FIRST_PORT), [Timed(words, home) for _ in range(count)]
+        members = [Timed(words, home) for _ in range(count)]
+        ended.callback(lambda: facts("%d: all end with 0" % count, [member.end() for member in members], [0] * len(members)))
         numbers = [member.me for member in members]
-        try:
-            facts("%d find one another" % count, all(comes(lambda: heard(member) == set(numbers) - {member.me}) for member in members), True)
-            with watched(members[0]) as page:
-                longest_frame(page)
-                quiet = Phase(members, seconds, [listener])
-                frames = [longest_frame(page)]
-                with Outside([*members], numbers, ear, port) as outside:
-                    late = Timed(words, home)
-                    beside = Phase(members, seconds, [listener])
-                    numbers.append(late.me)
-                    facts("%d: who comes beside him is found" % count, all(comes(lambda: heard(member) >= set(numbers) - {member.me}) for member in members), True)
-                    facts("%d: and draws" % count, late.draw("1/1", "line 0 31 4 31 n")[0], 200)
-                    frames.append(longest_frame(page))
+        facts("%d find one another" % count, all(comes(lambda: heard(member) == set(numbers) - {member.me}) for member in members), True)
+        page = ended.enter_context(watched(members[0]))
+        longest_frame(page)
+        quiet = Phase(members, seconds, [listener])
+        frames = [longest_frame(page)]
+        with outside(members, port) as sent:
+            late = Timed(words, home)
             members.append(late)
-            check_unchanged(facts, members, numbers, quiet, beside)
-            tell_times(facts, members[:count], quiet, beside, frames)
-            print("%d members beside %d datagrams of somebody without the key, load %.1f" % (count, outside.sent, os.getloadavg()[0]))
-        finally:
-            ear.end()
-            facts("%d: all end with 0" % count, [member.end() for member in members], [0] * len(members))
+            numbers.append(late.me)
+            beside = Phase(members[:count], seconds, [listener])
+            facts("%d: who comes beside him is found" % count, all(comes(lambda: heard(member) >= set(numbers) - {member.me}) for member in members), True)
+            facts("%d: and draws" % count, late.draw("1/1", "line 0 31 4 31 n")[0], 200)
+            frames.append(longest_frame(page))
+        check_unchanged(facts, members, numbers, quiet, beside)
+        tell_times(facts, members[:count], quiet, beside, frames)
+        print("%d members beside %s datagrams of somebody without the key, load %.1f" % (count, " ".join(sent), os.getloadavg()[0]))
 
 
 def heard(member: Process) -> Any:
@@ -264,6 +287,11 @@ def tell_times(facts: Facts, members: List[Timed], quiet: Phase, beside: Phase, 
 
 def test_outside(facts: Facts) -> None:
     check_outside(facts, MEMBERS, SECONDS, SPEED)
+
+
+def test_opened(facts: Facts) -> None:
+    """The same at an open board: one draws, and all that was drawn comes."""
+    check_attacked(facts, MEMBERS, SECONDS, SPEED, Outside)
 
 
 def main(words: Optional[List[str]] = None) -> int:
