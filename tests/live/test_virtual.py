@@ -337,7 +337,7 @@ class Restored(NamedTuple):
 
 
 def after_a_crash(seed: int) -> Restored:
-    """A member draws three times, and its record has two. Another member holds all of them, and says nothing while the first one listens."""
+    """A member draws three times, and its record has two. Another member holds all of them, and reports while the first one listens."""
     with tempfile.TemporaryDirectory() as folder, World(seed) as world:
         path = Path(folder) / "a.wb"
         world.loss = 0.0
@@ -351,9 +351,8 @@ def after_a_crash(seed: int) -> Restored:
         first.end()
         path.write_text(kept)
         again = world.join(1, str(path))
-        with mock.patch.object(again.judging, "arrive"):
-            world.run(LISTENING / SECOND + 1)
-        world.run(60)
+        again.base = again.member.board.moment + 1 - world.now  # it listens from now on
+        world.run(LISTENING / SECOND + 61)
         drawing = again.draw(4)
         return Restored(again.held() - (drawing.exception(0) is None), again.judging.has_twin, str(drawing.exception(0) or drawing.result(0)["seq"]))
 
@@ -456,7 +455,7 @@ def test_found_in_a_crowd(facts: Facts) -> None:
 
 
 def test_crash(facts: Facts) -> None:
-    """What a crash lost of ours a member gives back, also after we have listened. Nobody has our number then, and it goes on above."""
+    """What a crash lost of ours a member gives back, once we have listened. Nobody has our number then, and it goes on above."""
     for seed in (1, 2, 3):
         facts("what was lost is there again, and the next drawing is the fourth", after_a_crash(seed), Restored(3, False, "4"))
 
