@@ -10,9 +10,11 @@ from hashlib import sha256
 
 import pytest
 import wb
+from wb.blocks import Block
 from wb.child import Child
 
 from ..facts import Facts
+from ..host.program import program
 from .conftest import Start, by_library, by_program, raised, refused
 
 LINE = "line 0 0 4 0 *"
@@ -62,6 +64,17 @@ def test_full(start: Start) -> None:
         assert blocks == [["pages 1", "1 1"]] * 700, "blocks of many lines"
     assert raised(lambda: full.tick(9)) == "HostEnded"
     assert raised(lambda: wb.Host(3, cells=0, by=start())) == "Refused"
+
+
+def test_many_lines(facts: Facts) -> None:
+    """More lines at once than pipes take, whose blocks are not taken apart."""
+    host = wb.ChildHost(program())
+    due = [host.ask(line).due for line in ("board 1 100 1 42", "keep 4000 0")][-1]
+    printed = host.take_all(b"next 1 1\n" * 30_000 + b"no such line\n")
+    facts("each has its block", (printed.count(b"next 1"), sum(line.startswith(b"ok ") for line in printed), printed[-1][:8]), (30_000, 30_000, b"refused "))
+    facts("a refused one changes nothing", (host.due, host.ask("next 1 1")), (due, Block(["next 1"], due, None)))
+    facts("of no lines nothing", host.take_all(b""), [])
+    host.end()
 
 
 def test_listening(start: Start) -> None:
