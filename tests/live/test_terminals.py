@@ -15,8 +15,9 @@ import time
 from pathlib import Path
 from typing import Callable, List, Optional
 
+from live.terminal import Terminal
 from ..facts import Facts
-from .members import PATIENCE, TOP, Process, opened
+from .members import PATIENCE, TOP, Process, comes, opened
 from .test_networks import hosts_of
 
 FIRST_PORT = 26_200
@@ -67,6 +68,11 @@ class Screen:
             self.read()
         return True
 
+    def asks(self, line: str, words: str) -> bool:
+        """Whether the answer to a line has these words."""
+        self.type(line)
+        return self.wait_for(lambda rows: words in rows[23], 1.0)
+
     def end(self) -> int:
         self.type("quit")
         end = time.monotonic() + PATIENCE
@@ -100,6 +106,17 @@ def test_gone(facts: Facts) -> None:
     screen.folder.cleanup()
 
 
+def test_another_page(facts: Facts) -> None:
+    """The state line and `who` say it."""
+    terminal = Terminal.__new__(Terminal)
+    others = [{"member": 3, "delay": 1.5, "holds": "another"}, {"member": 4, "delay": None, "holds": None}, {"member": 5, "delay": None, "holds": "not-yet"}]
+    terminal.state = {"members": {"members": others}}
+    facts("who holds what", terminal.who(), "3 (1.5 ms, another page), 4, 5 (not yet the same page)")
+    facts("a page that is another", [text.partition(":")[0] for text in terminal.differing()], ["ANOTHER PAGE AT 3"])
+    terminal.state = {"members": {"members": others[1:]}}
+    facts("none that is", terminal.differing(), [])
+
+
 def test_screen(facts: Facts) -> None:
     screen = Screen(["--no-web", "--ports", str(FIRST_PORT), "--speed", "10"])
     other = Process(["--ports", str(FIRST_PORT), "--speed", "10"])
@@ -117,6 +134,7 @@ def test_screen(facts: Facts) -> None:
         facts("its letters are listed", screen.wait_for(lambda rows: [row.encode("latin-1").decode() for row in rows[1:4]] == letters), True)
         screen.type("inks")
         facts("and the page is painted again", screen.wait_for(lambda rows: rows[3] == '   hello "you"'), True)
+        facts("and that the other holds the same", comes(lambda: screen.asks("who", "same page")), True)
         screen.type("line 0 0 4 0")
         facts("a fault is told", screen.wait_for(lambda rows: rows[23] == "refused: word 6: missing"), True)
         screen.type("text 0 5 \"\u00e4\"")
