@@ -332,13 +332,14 @@ async function testTime(program) {
 async function testNames(program) {
   const member = await quietOf(program, { here: 'anna' }), [bob, eve] = ['bob', 'eve'].map((name) => ({ place: `wb/${name}`, owner: name }));
   const [, , moment] = (await reportOf(member)).split(' '), refused = 'under the number of another';
-  check('a number is his who speaks first under it', await toldBy(program, member, bob, 'session-message 2 5 1/1'), [null]);
+  check('whoever claims a number does not own it', await toldBy(program, member, eve, 'session-message 2 4 1/1'), [null]);
+  check('it is his who answers first under it', await toldBy(program, member, bob, `session-message 2 5 1/1 1@${moment}+0`), [null]);
   const forged = ['session-message 2 6 1/1', `session-message 2 7 1/1 1@${moment}+0`, 'page-state 2 1/1 2=900', 'request 2 1 1/1 1', 'ask-pages 2', `session-message 1 77 1/1 1@${moment}+0`, 'page-state 1 1/1 1=9'];
   check('another name does not speak under it, or under ours', await toldBy(program, member, eve, ...forged), forged.map(() => refused));
   check('nobody takes that for a member who has our number', [member.judging.hasTwin, (await drawOn(member, PAGE, 'line 0 0 1 1 *')).seq], [false, 1]);
   check('people hear of it', member.alarms.told(), [2, 1].map((number) => `somebody else speaks under the number of member ${number}: that is not heeded`));
   check('he goes on under his number', await toldBy(program, member, bob, `session-message 2 8 1/1 1@${moment}+0`), [null]);
-  check('what he drew may come of any member', await toldBy(program, member, eve, ...drawings(2, 1, 1), `session-message 3 5 1/1 1@${moment}+0`, ...drawings(2, 1, 1)), [refused, null, null]);
+  check('what he drew may come of anybody', await toldBy(program, member, eve, ...drawings(2, 1, 1), `session-message 3 5 1/1 1@${moment}+0`, ...drawings(2, 2, 2)), [null, null, null]);
 }
 
 // ---- a session

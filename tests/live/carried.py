@@ -101,7 +101,7 @@ def check_forger(facts: Facts, held: Carried, mallory: Sealed) -> None:
         time.sleep(0.02)
     for member in held.members:
         why = {entry["refused"] for entry in list(member.entries) if entry["from"] == "mallory" and entry["kind"] == "draw" and not entry["lost"]}
-        wanted = {"speaks for another", "our own number"} if member.me in VICTIMS else {"speaks for another"}
+        wanted = {"ahead of the clock", "our own number"} if member.me in VICTIMS else {"ahead of the clock"}
         facts("what somebody draws for others is dropped by member %d" % member.me, why, wanted)
     facts("and all draw by the time of day", [is_near(draws(member, BESIDE)) for member in held.members], [(200, True)] * MEMBERS)
 
