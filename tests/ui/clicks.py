@@ -71,8 +71,18 @@ def test_back(tally: Tally, anna: Sheet, tom: Sheet) -> None:
     tally.check("nor was it to who cleared", tom.page.value("document.getElementById('cleared').hidden"))
 
 
+def test_invited(tally: Tally, anna: Sheet, tom: Sheet) -> None:
+    """Others are shown the way here."""
+    clicks(anna)
+    anna.press("#invite-code")
+    tally.check("the address is there as a code", anna.page.wait("document.querySelector('#inviting[open] svg.code path')"))
+    tally.check("and in letters", bool(anna.page.value("/^http:.*[/]$/.test(document.getElementById('inviting-line').value)")))
+    tally.check("by 1 click", (many := clicks(anna)) == 1, str(many))
+    anna.page.key("Escape")
+
+
 def test_clicks(tally: Tally, browser: Browser, room: Path, ports: int) -> None:
     with class_of(browser, room, ports, [("Anna", LOSSY), ("Tom", 0.0)]) as (anna, tom):
         anna.page.value(COUNT)
-        for test in (test_changed, test_deleted, test_back):
+        for test in (test_changed, test_deleted, test_back, test_invited):
             test(tally, anna, tom)

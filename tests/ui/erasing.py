@@ -4,7 +4,7 @@ from __future__ import annotations
 import re
 from pathlib import Path
 
-from ..live.browser import CONTROL, Browser, Missed
+from ..live.browser import CONTROL, Browser, Missed, all_came
 from .classroom import LOSSY, class_of, rows, stroke
 from .inks import at, draw
 from .sheets import BY_CELLS, Member, Sheet, Tally
@@ -108,7 +108,7 @@ def test_switch(tally: Tally, browser: Browser, room: Path, ports: int) -> None:
         tom.press("#fold")
         tally.check("the program's own member is no guest", tom.page.wait("[...document.querySelectorAll('#members li')].at(-1).textContent === 'The boardkeeps what is drawnFollow'")
                     and tom.page.wait("document.querySelectorAll('#faces li').length === 2"), tom.text_of("members"))
-        tally.check("two who chose no colour have two", tom.page.wait("new Set(wb.faces.members.map(({ member }) => wb.painter.tintOf(member))).size === 2")
+        tally.check("two who chose no colour have two", all_came(sheet.page.wait("new Set(wb.faces.members.map(({ member }) => wb.painter.tintOf(member))).size === 2") for sheet in sheets)
                     and [sheet.page.value("JSON.stringify(wb.faces.members.map(({ member }) => [member, wb.painter.tintOf(member)]).sort())") for sheet in sheets][0]
                     == tom.page.value("JSON.stringify(wb.faces.members.map(({ member }) => [member, wb.painter.tintOf(member)]).sort())"))
         tally.check("another has none", tom.page.value("document.getElementById('clearing').hidden") is True and not tom.page.value("document.getElementById('clear').disabled"))

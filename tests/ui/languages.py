@@ -26,6 +26,10 @@ SEEN = """[...document.querySelectorAll('body *')].filter((each) => !each.closes
     .flatMap((each) => [each.title, each.getAttribute('aria-label'), each.placeholder, ...[...each.childNodes].filter(({ nodeType }) => nodeType === 3).map(({ data }) => data)])
     .flatMap((text) => String(text ?? '').match(/[A-Za-z]{3,}/g) ?? [])"""
 
+# shows that drawings wait, in the longest words of each language
+AWAY = "((text) => { const state = document.getElementById('state'); state.className = 'island lost'; state.querySelector('span').textContent = text; })"
+WAITING = {"German": "Offline: was du zeichnest, wartet hier", "Arabic": "\u063a\u064a\u0631 \u0645\u062a\u0635\u0644: \u0645\u0627 \u062a\u0631\u0633\u0645\u0647 \u064a\u0646\u062a\u0638\u0631 \u0647\u0646\u0627"}
+
 MIDDLE = "((chosen) => { const { left, right } = document.querySelector(chosen).getBoundingClientRect(); return (left + right) / 2; })"
 
 
@@ -106,7 +110,9 @@ def test_sizes(tally: Tally, anna: Sheet, salma: Sheet) -> None:
                 sheet.page.value(f"wb.hand.choose({tool!r}); wb.state.full = 0.81; wb.state.showNext(); 0")
                 faults = sheet.page.value(f"{FAULTS}([{TARGET}, {FACE}])")
                 tally.check(f"{name}: the layout of {width} points with the {tool}", not faults, str(faults))
-            sheet.page.value("wb.state.full = 0; wb.state.showNext(); 0")
+            faults = sheet.page.value(f"({AWAY}({json.dumps(WAITING[name])}), {FAULTS}([{TARGET}, {FACE}]))")
+            tally.check(f"{name}: the layout of {width} points while drawings wait", not faults, str(faults))
+            sheet.page.value("wb.state.full = 0; wb.state.showNext(); wb.state.show(); 0")
             for dialog in ("files", "keys", "welcome", "overview", "inviting"):
                 sheet.page.value(f"document.getElementById('{dialog}').showModal(); 0")
                 fits = sheet.page.value(f"((box) => box.scrollWidth <= box.clientWidth && box.getBoundingClientRect().left >= 0)(document.getElementById('{dialog}'))")
