@@ -663,6 +663,7 @@ export const TEXTS = {
   "toldNoPoint": ["no point", "kein Punkt", "ليست نقطة"],
   "toldNoHost": ["there is no host", "es gibt keinen Host", "لا يوجد مضيف"],
   "toldHostRefuses": ["no host can have this board: {board} ({why})", "kein Host kann diese Tafel haben: {board} ({why})", "لا مضيف لهذه السبورة: {board} ({why})"],
+  "toldLineRefused": ["no host takes a line of the record ({why}): {line}", "kein Host nimmt eine Zeile der Aufzeichnung ({why}): {line}", "لا يقبل أي مضيف سطرًا من السجل ({why}): {line}"],
   "toldDatabase": ["the database broke off", "die Datenbank brach ab", "انقطعت قاعدة البيانات"],
   "toldPacketKind": ["a packet of a kind that no broker sends", "ein Paket, wie es kein Broker sendet", "رسالة لا يرسلها وسيط"],
   "toldPacketLong": ["a packet that is too long", "ein zu langes Paket", "رسالة أطول مما يجوز"],
