@@ -62,8 +62,8 @@ async function testOld(program) {
   const again = await boardOf(program, record);
   check('a start goes on', [again.held.length, await nextOf(again.board)], [4, 8]);
   const early = new Record(null, 'here', 7);
-  early.add('board 7 100 1 42', 'draw 8 1/1 1 5 line 0 0 4 0 o', 'keep 4000 0');
-  check('what hosts no longer say is left out', (await boardOf(program, early)).held.map(({ name }) => name), ['8 1/1 1']);
+  early.add('board 7 100 1 42', 'datagram 5742', 'datagram 574', 'draw 8 1/1 1 5 line 0 0 4 0 o', 'keep 4000 0');
+  check('a line that brings nothing is left out', (await boardOf(program, early)).held.map(({ name }) => name), ['8 1/1 1']);
   await boardOf(program, Object.assign(new Record(null, 'here', 7), { held: ['board 7 0 1 42'] })).then(() => 'none', (fault) => fault.message)
     .then((told) => check('a board that no host has', told, 'no host can have this board: board 7 0 1 42 (number)'));
 }
@@ -193,15 +193,11 @@ async function testEnds(program) {
 
 /** A record with a line that no host takes is none to draw on. */
 async function testRefused(program) {
-  const record = new Record(null, 'here', 1), drawn = 'say draw 7 1/1 2147483648 5 line 0 0 4 0 o';
-  record.add('board 7 100 1 42', drawn);
-  const fault = await boardOf(program, record).catch((it) => it);
-  check('a drawing of ours from 2^31 on ends the start', [fault instanceof BoardFault, fault.message], [true, `no host takes a line of the record (ours): ${drawn}`]);
-  for (const line of ['say draw 7 1/1 0 5 line 0 0 4 0 o', 'datagram 5742', 'datagram 574']) {
-    const spoilt = new Record(null, 'here', 7);
-    spoilt.add('board 7 100 1 42', line, 'draw 8 1/1 1 5 line 0 0 4 0 o');
-    const told = await boardOf(program, spoilt).then(() => 'none', ({ message }) => message);
-    check('so does a line that is none', [told.startsWith('no host takes a line of the record ('), told.endsWith(`: ${line}`)], [true, true]);
+  for (const [line, why] of [['say draw 7 1/1 2147483648 5 line 0 0 4 0 o', 'ours'], ['say draw 7 1/1 0 5 line 0 0 4 0 o', 'word 4: sequence number 0']]) {
+    const record = new Record(null, 'here', 1);
+    record.add('board 7 100 1 42', line);
+    const fault = await boardOf(program, record).catch((it) => it);
+    check('a line of ours ends the start', [fault instanceof BoardFault, fault.message], [true, `no host takes a line of the record (${why}): ${line}`]);
   }
 }
 

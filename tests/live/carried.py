@@ -6,7 +6,7 @@ import struct
 import tempfile
 import time
 from concurrent.futures import ThreadPoolExecutor
-from typing import Any, Dict, List, Union
+from typing import Any, Dict, List, Set, Union
 
 from live.carriers.mqtt import Broker, BrokerSession, Login, MqttCarrier
 from live.carriers.sealed import Seal, Sealed
@@ -93,6 +93,11 @@ def check_impostor(facts: Facts, held: Carried) -> None:
     mallory.end()
 
 
+def why_dropped(member: Process) -> Set[Any]:
+    """Why what mallory drew was dropped."""
+    return {entry["refused"] for entry in list(member.entries) if entry["from"] == "mallory" and entry["kind"] == "draw" and not entry["lost"]}
+
+
 def check_forger(facts: Facts, held: Carried, mallory: Sealed) -> None:
     """He draws under the numbers of two members, tomorrow."""
     for number in range(1_000, 1_020):
@@ -100,9 +105,9 @@ def check_forger(facts: Facts, held: Carried, mallory: Sealed) -> None:
             mallory.send(drawn(victim, number, time.time_ns() // 1000 + AHEAD, 9, b"t", FORGED))
         time.sleep(0.02)
     for member in held.members:
-        why = {entry["refused"] for entry in list(member.entries) if entry["from"] == "mallory" and entry["kind"] == "draw" and not entry["lost"]}
         wanted = {"ahead of the clock", "our own number"} if member.me in VICTIMS else {"ahead of the clock"}
-        facts("what somebody draws for others is dropped by member %d" % member.me, why, wanted)
+        member.wait_for(lambda _: why_dropped(member) >= wanted)
+        facts("what somebody draws for others is dropped by member %d" % member.me, why_dropped(member), wanted)
     facts("and all draw by the time of day", [is_near(draws(member, BESIDE)) for member in held.members], [(200, True)] * MEMBERS)
 
 
