@@ -5,6 +5,7 @@ import hashlib
 import json
 import random
 import time
+from pathlib import Path
 from types import SimpleNamespace
 from typing import Any, Dict, Iterator, List, Optional
 
@@ -136,3 +137,30 @@ def test_members(two: List[Process], facts: Facts) -> None:
         facts("then each is told that the other's page is another", [holds(two[at], two[1 - at], ANOTHER) for at in range(2)], [True, True])
     finally:
         forger.end()
+
+
+def cut(path: Path, start: str) -> None:
+    """Takes the last line that begins so from a file, and all behind it."""
+    lines = path.read_text().splitlines(keepends=True)
+    path.write_text("".join(lines[:max(at for at, line in enumerate(lines) if line.startswith(start))]))
+
+
+def test_lost_end(facts: Facts, tmp_path: Path) -> None:
+    """A disk lost the last drawing, of the record and of what the page asked. Its member draws another one before it hears of that; then both are told."""
+    records = [tmp_path / ("%d.record" % number) for number in (1, 2)]
+
+    def start(number: int) -> Process:
+        return Process(["--ports", str(FIRST_PORT + 100), "--speed", str(SPEED), "--me", str(number), "--record", str(records[number - 1])])
+
+    one, other = start(1), start(2)
+    for row in range(3):
+        one.draw(PAGE, "line 0 %d 9 %d *" % (row, row))
+    facts("both hold the same", [holds(one, other, SAME), holds(other, one, SAME)], [True, True])
+    facts("they end with 0", [one.end(), other.end()], [0, 0])
+    cut(records[0], "say draw 1 ")
+    cut(tmp_path / "1.record.page", "asked ")
+    one = start(1)
+    facts("it draws under a number that it drew under", one.draw(PAGE, "line 9 0 9 9 o")[1]["seq"], 3)
+    other = start(2)
+    facts("each is told that the other's page is another", [holds(one, other, ANOTHER), holds(other, one, ANOTHER)], [True, True])
+    facts("and they end with 0", [one.end(), other.end()], [0, 0])
