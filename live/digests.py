@@ -25,6 +25,9 @@ SAME, NOT_YET, ANOTHER = "same", "not-yet", "another"
 # how many tellings in a row say that a page is another until the views say so: a drawing that is under way makes one
 TIMES = 2
 
+# as many missing are told at most: forged marks of several numbers make more
+MOST_MISSING = 2**32 - 1
+
 # tellings that wait, pages of members that are remembered, and digests of ours
 MOST_WAITING, MOST_SEEN, MOST_OURS = 128, 512, 32
 
@@ -47,7 +50,7 @@ class Seen(NamedTuple):
 
 
 def write(told: Told) -> bytes:
-    return LAYOUT.pack(MARK, VERSION, told.member, *told.page, told.missing, told.marks, told.digest)
+    return LAYOUT.pack(MARK, VERSION, told.member, *told.page, min(told.missing, MOST_MISSING), told.marks, told.digest)
 
 
 def read(data: bytes) -> Optional[Told]:

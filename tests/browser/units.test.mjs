@@ -329,6 +329,7 @@ async function testDigests() {
   check('an equal digest, another once and twice', [judged(ours, { ...ours, marks: 1n, missing: 5 }, 9), judged(ours, other, 0), judged(ours, other, 1)],
     [{ state: 'same', times: 0 }, { state: 'not-yet', times: 1 }, { state: 'another', times: 2 }]);
   check('other marks, or something is missing', [judged(ours, { ...other, marks: 1n }, 5), judged(ours, { ...other, missing: 1 }, 5), judged({ ...ours, missing: 1 }, other, 5)].map(({ state, times }) => [state, times]), Array(3).fill(['not-yet', 0]));
+  check('more are missing than can be said', readTold(writeTold({ ...ours, missing: 2 ** 33 }))?.missing, 2 ** 32 - 1);
   check('what is none', [writeTold(ours).subarray(1), Uint8Array.of(87, 80, ...writeTold(ours).subarray(2))].map(readTold), [null, null]);
   const sent = [], asked = [], sheet = { drawops: new Map([[1, 1]]), tops: new Map([[7, 3]]) };
   const member = { me: 1, wake: () => {}, board: { host: 1, digest: async (page) => asked.push(page) && ours.digest }, drawn: { sheet: () => sheet }, telling: { reported: { missing: () => 0 } },

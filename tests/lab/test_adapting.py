@@ -214,7 +214,7 @@ def test_a_record_with_other_constants_is_answered_again() -> None:
 
             def note(member: HostMember, line: bytes) -> list[bytes]:
                 block = read(member, line)
-                if line.split()[0] not in (b"show", b"report", b"gaps"):  # what is asked at the end is in no record
+                if line.split()[0] not in (b"show", b"report", b"digest", b"gaps"):  # what is asked at the end is in no record
                     printed.setdefault(member.number, []).extend(block)
                 return block
 

@@ -160,7 +160,7 @@ def test_questions_by_bytes_are_answered(judged: JudgedByBytes) -> None:
     assert found[3] == [(GREATEST, bytes([0, 0, 0, source, 0, 0, 0, high])) for source, high in zip(two, (1, 4))]
     assert found[4] == [(PAGE, bytes([0, 0, 0, 7, 0, 0, 0, 1]))]
     assert found[5] == [(PAINTED, b"+++++\n")]
-    assert judged.calls.wb_ask(ctypes.byref(judged.held), *(ctypes.c_uint32(it) for it in (8, 7, 1, 0, 0))) == NO_QUESTION
+    assert judged.calls.wb_ask(ctypes.byref(judged.held), *(ctypes.c_uint32(it) for it in (9, 7, 1, 0, 0))) == NO_QUESTION
     judged.close()
 
 

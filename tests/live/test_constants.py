@@ -142,4 +142,4 @@ def test_few(facts: Facts) -> None:
     told = {constants: "99 in 100 within %.2f s, the slowest after %.1f s" % (within(took), took[-1]) for constants, took in found.items()}
     print("three members, three in ten lost: %s" % told)
     facts.holds("99 in 100 drawings are with all soon", within(found[None]) < WITHIN, told[None])
-    facts.holds("they were not", all(within(found[constants]) > 1.25 * WITHIN for constants in (NEAR, FAR)), (told[NEAR], told[FAR]))
+    facts.holds("with those it takes a quarter longer", all(within(found[constants]) > 1.25 * within(found[None]) for constants in (NEAR, FAR)), (told[NEAR], told[FAR]))

@@ -32,6 +32,7 @@ def test_bytes(facts: Facts) -> None:
     marks = "%016x" % TOLD.marks
     facts("the bytes", data.hex(), "57440100" + "00000007" + "00000001" + "00000002" + "00000000" + marks + TOLD.digest.hex())
     facts("they are read as they were written", read(data), TOLD)
+    facts("more are missing than can be said", read(write(TOLD._replace(missing=2**33))), TOLD._replace(missing=2**32 - 1))
     facts("what is none", [read(each) for each in (b"", data[:-1], data + b"\0", b"WP" + data[2:], data[:2] + b"\2" + data[3:])], [None] * 5)
     facts("no marks and one mark in short (FNV-1a)", (in_short([]), in_short([(0, 0x61)])), (0xCBF29CE484222325, fnv(b"\0" * 7 + b"a")))
     facts("whatever their order", in_short([(7, 3), (2, 1)]), in_short([(2, 1), (7, 3)]))
@@ -146,7 +147,7 @@ def cut(path: Path, start: str) -> None:
 
 
 def test_lost_end(facts: Facts, tmp_path: Path) -> None:
-    """A disk lost the last drawing, of the record and of what the page asked. Its member draws another one before it hears of that; then both are told."""
+    """A disk lost the last drawing, of the record and of what the page asked. Its member draws another one before it hears of that; then both say so."""
     records = [tmp_path / ("%d.record" % number) for number in (1, 2)]
 
     def start(number: int) -> Process:

@@ -24,7 +24,10 @@ PATIENCE = 120.0
 DEBIAN = ("/usr/local/bin", "/usr/bin", "/bin")
 
 PROVED = "it proves and builds, which takes minutes: tests/launcher and tests/release run it over stand-ins"
-NOT_RUN = {"./wb --library ~/.local": PROVED}
+NOT_RUN = {
+    "./wb --library ~/.local": PROVED,
+    **dict.fromkeys(['ours, theirs = one.host.digest("1/1"), other.host.digest("1/1")', 'if ours != theirs and not one.host.gaps("1/1"):'], "lines of Python, as tests/python/test_hosts has them"),
+}
 
 
 def commands_of(page: str) -> list[str]:

@@ -52,7 +52,7 @@ def test_opening(tally: Tally, browser: Browser, tmp_path: Path) -> None:
             page.until(IS_OPEN)
             sizes.append(int(page.value(SIZE)))
             page.close()
-        tally.check("the first time it is packed", 30_000 < sizes[0] < 220_000, str(sizes))
+        tally.check("the first time it is packed", 30_000 < sizes[0] < 225_000, str(sizes))
         tally.check("the second time it is here", sizes[1] < FEW_BYTES, str(sizes))
         tally.check("also after a restart", sizes[2] < FEW_BYTES, str(sizes))
         print(f"bytes of three openings, the last after a restart: {sizes}")

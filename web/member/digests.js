@@ -20,6 +20,9 @@ const FIRST = 0xcbf29ce484222325n, FACTOR = 0x100000001b3n;
 /** How many tellings in a row say that a page is another until the board says so: a drawing that is under way makes one. */
 const TIMES = 2;
 
+/** As many missing are told at most: forged marks of several numbers make more. */
+const MOST_MISSING = 0xffffffff;
+
 /** Tellings that wait, pages of members that are remembered, and digests of ours. */
 const MOST_WAITING = 128, MOST_SEEN = 512, MOST_OURS = 32;
 
@@ -30,7 +33,7 @@ const bytesOf = (digits) => (digits.match(/../g) ?? []).map((two) => parseInt(tw
 export function writeTold({ member, page, missing, marks, digest }) {
   const bytes = new Uint8Array(SIZE), view = new DataView(bytes.buffer);
   bytes.set([MARK.charCodeAt(0), MARK.charCodeAt(1), VERSION]);
-  [member, ...pageNumbers(page), missing].forEach((value, i) => view.setUint32(4 + 4 * i, value));
+  [member, ...pageNumbers(page), Math.min(missing, MOST_MISSING)].forEach((value, i) => view.setUint32(4 + 4 * i, value));
   view.setBigUint64(20, marks);
   bytes.set(bytesOf(digest), HEAD);
   return bytes;

@@ -146,6 +146,9 @@ def check_attacked(facts: Facts, count: int, seconds: float, speed: int, by: Typ
             facts("%d attacked: no host was started again" % count, [member.counts()["starts"] for member in members], [1] * count)
             facts("%d attacked: what was told is what the hosts show" % count, [member.shows_all() for member in members], [True] * count)
         finally:
+            for member in members:
+                if member.process.poll() is not None:
+                    print("member %d ended by itself: %s" % (member.me, member.last_words()))
             facts("%d attacked: all end with 0" % count, [member.end() for member in members], [0] * count)
 
 
