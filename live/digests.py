@@ -25,7 +25,7 @@ SAME, NOT_YET, ANOTHER = "same", "not-yet", "another"
 # how many tellings in a row say that a page is another until the views say so: a drawing that is under way makes one
 TIMES = 2
 
-# as many missing are told at most: forged marks of several numbers make more
+# the most missing that a datagram can say: forged marks of several numbers make more
 MOST_MISSING = 2**32 - 1
 
 # tellings that wait, pages of members that are remembered, and digests of ours

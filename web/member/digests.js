@@ -20,7 +20,7 @@ const FIRST = 0xcbf29ce484222325n, FACTOR = 0x100000001b3n;
 /** How many tellings in a row say that a page is another until the board says so: a drawing that is under way makes one. */
 const TIMES = 2;
 
-/** As many missing are told at most: forged marks of several numbers make more. */
+/** The most missing that a datagram can say: forged marks of several numbers make more. */
 const MOST_MISSING = 0xffffffff;
 
 /** Tellings that wait, pages of members that are remembered, and digests of ours. */
