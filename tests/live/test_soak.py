@@ -17,6 +17,7 @@ from typing import Any, Callable, Dict, List, Optional, Set, Tuple, Union
 
 from live import ink
 from live.digests import ANOTHER
+from live.keys import write_key
 from live.views import Drawop
 from ..facts import Facts
 from .test_guests import Window
@@ -62,6 +63,8 @@ class Soak:
         self.seconds = seconds
         self.pause = (MEMBERS + GUESTS) * seconds / drawings
         self.chance = random.Random(3)
+        self.key = str(Path(folder) / "session.key")
+        write_key(self.key)
         self.records = [str(Path(folder) / ("%d.wb" % number)) for number in range(1, MEMBERS + 2)]
         self.members: List[Process] = [self.start(number, []) for number in range(1, MEMBERS + 1)]
         self.served = self.start(MEMBERS + 1, ["--web", "127.0.0.1:0"])
@@ -72,9 +75,10 @@ class Soak:
         self.faults: List[str] = []
         self.kills = self.host_kills = self.returns = 0
         self.memory: List[List[int]] = []
+        self.apart: List[Any] = []  # who had another page, at any time
 
     def start(self, number: int, more: List[str]) -> Process:
-        words = ["--ports", str(FIRST_PORT), "--me", str(number), "--record", self.records[number - 1], *more]
+        words = ["--ports", str(FIRST_PORT), "--key", self.key, "--me", str(number), "--record", self.records[number - 1], *more]
         return Process([*words, "--lose", "0.3334", "--twice", "0.1", "--mix", "--speed", "4"])
 
     def drawer(self, index: int) -> Drawer:
@@ -146,7 +150,14 @@ class Soak:
                     for host in hosts_of(self.members[index].process.pid):
                         os.kill(host, signal.SIGKILL)
                         self.host_kills += 1
+            self.note_apart()
             self.memory.append([resident(member.process.pid) for member in [*self.members, self.served]])
+
+    def note_apart(self) -> None:
+        """Takes note of each member of which people are told that its page is another."""
+        for index in range(MEMBERS + GUESTS):
+            others = self.drawer(index).states.get("members", {"members": []})["members"]
+            self.apart += [(index, other) for other in others if other["holds"] == ANOTHER]
 
     def run(self) -> None:
         for window in self.windows:
@@ -238,8 +249,8 @@ def check_soak(facts: Facts, seconds: float = SECONDS, drawings: int = DRAWINGS)
                 "%.0f and %.0f" % (sum(each[:MEMBERS]) / MEMBERS / 1024, each[MEMBERS] / 1024) for each in marks))
             healths = [soak.drawer(index).states["health"] for index in range(MEMBERS + GUESTS)]
             facts("a soak: no twin and no clash", [text for health in healths for text in health["warnings"] if "number" in text], [])
-            members = [other for index in range(MEMBERS + GUESTS) for other in soak.drawer(index).states["members"]["members"]]
-            facts("a soak: nobody has another page", [other for other in members if other["holds"] == ANOTHER], [])
+            soak.note_apart()
+            facts("a soak: nobody had another page, at any time", soak.apart[:3], [])
             facts("a soak: what was told is what the hosts show", [soak.shows_all(index) for index in range(MEMBERS + GUESTS)], [True] * len(healths))
         finally:
             facts("a soak: all end with 0", soak.end(), [0] * (MEMBERS + 1))
