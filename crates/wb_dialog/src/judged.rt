@@ -1,7 +1,8 @@
 //! What a line does at a judged host, and how a driven one becomes judged.
-ghost use Rattle.std.specs.Prelude.{◌≡◌, [], Some, true};
+ghost use Rattle.std.specs.Prelude.{◌≡◌, [], ℕ, List, MatchResult, Some, true};
 ghost use Rattle.wb_recovery.specs.Timing.{are_constants};
-ghost use Rattle.wb_dialog.specs.Doing.{Adds, LeadsFrom, LeadsOpen};
+ghost use Rattle.wb_dialog.specs.Doing.{Adds, IsUndone, LeadsFrom, LeadsOpen, Tells};
+ghost use Rattle.wb_dialog.specs.Told.{Says};
 ghost use Rattle.wb_dialog.specs.JudgedLines.{IsJudgeLine};
 ghost use Rattle.wb_dialog.specs.Kinds.{common_response, judge_response, line_response};
 ghost use Rattle.wb_dialog.specs.Lines.{line_of};
@@ -16,6 +17,8 @@ use crate::judged_parsing::read_judged;
 use crate::keeping::answer_said;
 use crate::opened::Host;
 use crate::parsing::refused;
+use crate::texts::print_told;
+use crate::told::Told;
 use std::alloc::Global;
 use wb_judging::JudgedMember;
 use wb_lines::Output;
@@ -68,6 +71,25 @@ fn take_common(
     (Host::Judged(JudgedMember::of_parts(kept, judge)), result)
 }
 
+/// Prints what a line comes to, unless it is refused.
+fn tell(
+    alloc: Global,
+    told: Result<Told, Unanswered>,
+    output: &mut Output,
+) -> Result<(), Unanswered>
+    ensures { Adds output.old output.new (λ written. MatchResult told
+        (λ told. (text : List ℕ) → Says told text → Tells written result text)
+        (λ fault. IsUndone written result fault)) }
+{
+    match told {
+        Ok(told) => {
+            print_told(alloc, &told, output)?;
+            Ok(())
+        }
+        Err(fault) => Err(fault),
+    }
+}
+
 /// What a line does at a judged host: it prints, or it is refused, and then the host stays as it
 /// is.
 #[tactic(auto, using(crate::proofs::EachKind::leads_as_common, crate::proofs::EachKind::leads_judged, crate::proofs::EachKind::unread_judged))]
@@ -83,8 +105,8 @@ pub(crate) fn take_judged(
     match read_judged(alloc, content) {
         Ok(JudgedLine::Common) => take_common(alloc, member, content, output),
         Ok(line) => {
-            let result = answer(alloc, &mut member, &line, output);
-            (Host::Judged(member), result)
+            let told = answer(alloc, &mut member, line);
+            (Host::Judged(member), tell(alloc, told, output))
         }
         Err(fault) => (Host::Judged(member), Err(refused(fault))),
     }

@@ -39,6 +39,7 @@ mod parsing;
 mod record_text;
 mod recorded;
 mod texts;
+mod told;
 mod words;
 
 pub use dialog::Dialog;

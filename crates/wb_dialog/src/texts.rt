@@ -1,17 +1,18 @@
 //! What is printed for events, and for the members and the pages that a driver asks for.
-ghost use Rattle.std.specs.Prelude.{◌≡◌, ◌+◌, ◌++◌, IfOk, OnOk, List, codes, drop, flat_map, length, min, take};
+ghost use Rattle.std.specs.Prelude.{◌≡◌, ◌+◌, ◌++◌, ℕ, IfOk, OnOk, List, codes, drop, flat_map, length, min, take};
 ghost use Rattle.std.specs.List.{range_with_len};
 ghost use Rattle.std.specs.String.{string_bytes};
 ghost use Rattle.wb_dialog.specs.Doing.{Adds, Prints};
+ghost use Rattle.wb_dialog.specs.Told.{Says};
 ghost use Rattle.wb_dialog.specs.Texts.{drew_line, dropped_line, became_line, event_line, events_text, fate_word, fetch_line, lacks_line, list_text, listed_line, member_line, members_text, moment_word, origin_word, paint_text, painted_row, hidden_line, record_line, shown_line, since_text, warning_line, why_word, worded_line};
 ghost use Rattle.wb_names.specs.Values.{DrawopValue};
 ghost use Rattle.wb_display.specs.Canvas.{canvas_text};
 
 use crate::record_text::write_record;
+use crate::told::Told;
 use std::alloc::{AllocError, Global};
 use wb_codec::Datagram;
 use wb_commands::send_line;
-use wb_display::Canvas;
 use wb_judge::{Listed, Origin, Other, Warning, Why};
 use wb_judging::{Event, Fate, RecordLine, ShownAt, Since};
 use wb_lines::Output;
@@ -311,84 +312,31 @@ fn worded_line(alloc: Global, datagram: &Datagram) -> Result<Vec<u8>, AllocError
     Ok(text)
 }
 
-/// Prints events, a line for each. If an allocation fails, nothing is printed.
-pub(crate) fn print_events(
-    alloc: Global,
-    events: &[Event],
-    output: &mut Output,
-) -> Result<(), AllocError>
-    ensures { Adds output.old output.new (λ written.
-        Prints written result (events_text events.now)) }
+/// The text of what a line of a judged host comes to.
+fn told_text(alloc: Global, told: &Told) -> Result<Vec<u8>, AllocError>
+    ensures { IfOk result (λ written. (text : List ℕ) → Says told.now text →
+        written.items ≡ text) }
 {
-    output.add(events_text(alloc, events)?.as_slice())
+    match told {
+        Told::Nothing => Ok(Vec::new(alloc)),
+        Told::Events(events) => events_text(alloc, events),
+        Told::Members(members) => Ok(members_text(alloc, members)?.into_bytes()),
+        Told::Pages(pages) => Ok(list_text(alloc, pages)?.into_bytes()),
+        Told::Canvas {
+            canvas,
+            width,
+            height,
+        } => paint_text(alloc, canvas.bytes(), *width, *height),
+        Told::Since(since) => since_text(alloc, since),
+        Told::Lacks(count) => Ok(lacks_line(alloc, *count)?.into_bytes()),
+        Told::Words(datagram) => worded_line(alloc, datagram),
+    }
 }
 
-/// Prints `members K`, and K members, a line for each. If an allocation fails, nothing is printed.
-pub(crate) fn print_members(
-    alloc: Global,
-    members: &[Other],
-    output: &mut Output,
-) -> Result<(), AllocError>
-    ensures { Adds output.old output.new (λ written.
-        Prints written result (members_text members.now)) }
+/// Prints what a line of a judged host comes to. If an allocation fails, nothing is printed.
+pub(crate) fn print_told(alloc: Global, told: &Told, output: &mut Output) -> Result<(), AllocError>
+    ensures { Adds output.old output.new (λ written. (text : List ℕ) → Says told.now text →
+        Prints written result text) }
 {
-    output.add(members_text(alloc, members)?.as_bytes())
-}
-
-/// Prints `list K`, and K pages, a line for each. If an allocation fails, nothing is printed.
-pub(crate) fn print_list(
-    alloc: Global,
-    pages: &[Listed],
-    output: &mut Output,
-) -> Result<(), AllocError>
-    ensures { Adds output.old output.new (λ written.
-        Prints written result (list_text pages.now)) }
-{
-    output.add(list_text(alloc, pages)?.as_bytes())
-}
-
-/// Prints `paint H`, and H rows, each after a mark. If an allocation fails, nothing is printed.
-pub(crate) fn print_canvas(
-    alloc: Global,
-    canvas: &Canvas,
-    width: u32,
-    height: u32,
-    output: &mut Output,
-) -> Result<(), AllocError>
-    ensures { Adds output.old output.new (λ written. (shown : List DrawopValue) →
-        canvas.now ≡ canvas_text shown width height →
-        Prints written result (paint_text shown width height)) }
-{
-    output.add(paint_text(alloc, canvas.bytes(), width, height)?.as_slice())
-}
-
-/// Prints what a page shows otherwise than it did. If an allocation fails, nothing is printed.
-pub(crate) fn print_since(
-    alloc: Global,
-    since: &Since,
-    output: &mut Output,
-) -> Result<(), AllocError>
-    ensures { Adds output.old output.new (λ written. Prints written result
-        (since_text since.now.held since.now.hidden.items since.now.shown.items)) }
-{
-    output.add(since_text(alloc, since)?.as_slice())
-}
-
-/// Prints how many drawops of a page are missing. If an allocation fails, nothing is printed.
-pub(crate) fn print_lacks(alloc: Global, count: u64, output: &mut Output) -> Result<(), AllocError>
-    ensures { Adds output.old output.new (λ written. Prints written result (lacks_line count)) }
-{
-    output.add(lacks_line(alloc, count)?.as_bytes())
-}
-
-/// Prints a datagram in words. If an allocation fails, nothing is printed.
-pub(crate) fn print_words(
-    alloc: Global,
-    datagram: &Datagram,
-    output: &mut Output,
-) -> Result<(), AllocError>
-    ensures { Adds output.old output.new (λ written.
-        Prints written result (worded_line datagram.now)) }
-{
-    output.add(worded_line(alloc, datagram)?.as_slice())
+    output.add(told_text(alloc, told)?.as_slice())
 }
