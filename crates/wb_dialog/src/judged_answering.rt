@@ -46,6 +46,7 @@ fn call(alloc: Global, member: &mut JudgedMember, call: &Call) -> Result<Told, U
 }
 
 /// Which numbers were heard lately.
+#[tactic(auto, using(crate::proofs::Acts::found))]
 fn members(alloc: Global, member: &mut JudgedMember) -> Result<Told, Unanswered>
     ensures { ComesFrom member.old member.new result (act JudgedLine.Members) }
 {
@@ -53,6 +54,7 @@ fn members(alloc: Global, member: &mut JudgedMember) -> Result<Told, Unanswered>
 }
 
 /// Which pages are drawn on.
+#[tactic(auto, using(crate::proofs::Acts::lists))]
 fn list(alloc: Global, member: &mut JudgedMember, most: u32) -> Result<Told, Unanswered>
     ensures { ComesFrom member.old member.new result (act (JudgedLine.List most)) }
 {
@@ -84,6 +86,7 @@ fn canvas(
 }
 
 /// Paints a page.
+#[tactic(auto, using(crate::proofs::Acts::found))]
 fn paint(
     alloc: Global,
     member: &mut JudgedMember,
@@ -103,6 +106,7 @@ fn paint(
 }
 
 /// What a page shows otherwise than when `count` drawops were held.
+#[tactic(auto, using(crate::proofs::Acts::sinces))]
 fn since(
     alloc: Global,
     member: &mut JudgedMember,
@@ -115,6 +119,7 @@ fn since(
 }
 
 /// How many drawops of a page are missing.
+#[tactic(auto, using(crate::proofs::Acts::found))]
 fn lacks(alloc: Global, member: &mut JudgedMember, page: PageId) -> Result<Told, Unanswered>
     ensures { ComesFrom member.old member.new result (act (JudgedLine.Lacks page)) }
 {
