@@ -11,12 +11,13 @@
 //! also which datagrams it takes, by their origins.
 //!
 //! In reading order: `line` has the lines of any host, and `judged_line` those of a judged one
-//! besides; `words`, `parsing`, `recorded` and `judged_parsing` read them, and `fault` says why one
-//! is refused. `answering`, `keeping` and `judged_answering` do what a line says at a member; `told`
-//! is what a line of a judged host comes to. `blocks`, `record_text` and `texts` print. `board` is what a host keeps until it begins to be
-//! kept or judged (`beginning`). `opened` has the three kinds of an open host: `driving`, `keeping`
-//! and `judged` say what a line does at each. `dialog` joins them into a handler of lines, and
-//! `hosting` runs it. `laws` says what follows.
+//! besides; `words`, `parsing`, `recorded` and `judged_parsing` read them, and `fault` says why
+//! one is refused. `answering`, `keeping` and `judged_answering` do what a line says at a
+//! member; `told` is what a line of a judged host comes to. `blocks`, `record_text` and `texts`
+//! print. `board` is what a host keeps until it begins to be kept or judged (`beginning`).
+//! `opened` has the three kinds of an open host: `driving`, `keeping` and `judged` say what a
+//! line does at each. `dialog` joins them into a handler of lines, and `hosting` runs it.
+//! `laws` says what follows.
 #![tactic(auto)]
 
 mod answering;
