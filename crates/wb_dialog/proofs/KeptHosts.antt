@@ -16,7 +16,7 @@ use Rattle.wb_policy.specs.Choices.{last_heard}
 use Rattle.wb_policy.specs.Delays.{bounded}
 use Rattle.wb_policy.specs.Policy.{Policy, after_wanting}
 use Rattle.wb_policy.specs.Reports.{slice_after}
-use Rattle.wb_policy.specs.Wanting.{is_wanted}
+use Rattle.wb_policy.specs.Wanting.{is_crowded, is_wanted}
 use Rattle.wb_keeping.specs.Calls.{Added, Came, KeptLine, Ticked, Tuned, doing_of, fault_of}
 use Rattle.wb_keeping.specs.Kept.{Doing, Line, Arrives, Says, drawing, ends_full, hears, state_of, still, timed, want, Calls, drew}
 use Rattle.wb_keeping.specs.Performing.{Keeping, after_doing, after_line, after_lines, after_saying, said, said_where, sees, sent_by_line, view_of}
@@ -115,7 +115,7 @@ one_line : (line : Line) (k : Keeping) (p : Policy) → MayDrive line k.host →
 one_line line k p drives = record { at = refl; drive = (drives, tt) }
 
 wants_go : (name : NameValue) (anew : Bool) (k : Keeping) → MayGo k (want name anew (sees k.host) k.policy).lines (after_doing (want name anew) k)
-wants_go name anew k = by (is_wanted (holds v name) (is_full v) anew (is_known v name.source) (level v name) (length v.asked) k.policy.owed v.now) where
+wants_go name anew k = by (is_wanted (holds v name) (is_full v) (is_crowded v.asked) anew (is_known v name.source) (level v name) (length v.asked) k.policy.owed v.now) where
   v : View
   v = view_of k.host
 

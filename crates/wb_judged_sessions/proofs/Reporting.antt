@@ -15,7 +15,7 @@ use Rattle.wb_gaps.specs.Answers.{pages_of}
 use Rattle.wb_member.specs.Opened.{Opened, has_room_for, heard, present}
 use Rattle.wb_member.specs.declared.calls.Call.TheVariants.{Hear}
 use Rattle.wb_policy.specs.Policy.{after_answer, after_wanting}
-use Rattle.wb_policy.specs.Wanting.{is_wanted}
+use Rattle.wb_policy.specs.Wanting.{is_crowded, is_wanted}
 use Rattle.wb_policy.specs.Words.{word_of}
 use Rattle.wb_keeping.specs.Bounds.{is_report}
 use Rattle.wb_keeping.specs.Kept.{Calls, Doing, Line, Says, state_of, still, want}
@@ -70,7 +70,7 @@ hears_goes v k = by (has_room_for v k.host) where
 wants_goes : (name : NameValue) (anew : Bool) (k : Keeping) → GoesOn k (want name anew (sees k.host) k.policy).lines (after_doing (want name anew) k)
 wants_goes name anew k =
     goes_on k (after_doing (want name anew) k) _ (does_rest (want name anew) (want_each IsSmall are_small name anew) k).now
-    (by (is_wanted (holds v name) (is_full v) anew (is_known v name.source) (level v name) (length v.asked) k.policy.owed v.now)) where
+    (by (is_wanted (holds v name) (is_full v) (is_crowded v.asked) anew (is_known v name.source) (level v name) (length v.asked) k.policy.owed v.now)) where
       v : View
       v = view_of k.host
 

@@ -22,7 +22,7 @@ use Rattle.wb_member.specs.Opened.{Opened, becomes, has_room_for}
 use Rattle.wb_member.specs.declared.calls.Call.TheVariants.{Tick, Hear}
 use Rattle.wb_member.proofs.PolicyCalls.{none_sent}
 use Rattle.wb_policy.specs.Policy.{Policy, after_wanting}
-use Rattle.wb_policy.specs.Wanting.{is_wanted}
+use Rattle.wb_policy.specs.Wanting.{is_crowded, is_wanted}
 use Rattle.wb_keeping.specs.Kept.{Arrives, Calls, Line, Says, still, want}
 use Rattle.wb_keeping.specs.Performing.{after_line, said_where, sent_by_line, sent_by_lines}
 use Rattle.wb_keeping.specs.Views.{View, holds, is_full, is_known, level}
@@ -40,7 +40,7 @@ SaysOnly P (Calls call) = IsOfPolicy call
 
 -- the lines for a name that is wanted say nothing
 pub want_says : (P : Datagram → Type 0) (name : NameValue) (anew : Bool) (see : List Line → View) (p : Policy) → Each (SaysOnly P) (want name anew see p).lines
-want_says P name anew see p = by (is_wanted (holds v name) (is_full v) anew (is_known v name.source) (level v name) (length v.asked) p.owed v.now) where
+want_says P name anew see p = by (is_wanted (holds v name) (is_full v) (is_crowded v.asked) anew (is_known v name.source) (level v name) (length v.asked) p.owed v.now) where
   v : View
   v = see []
 

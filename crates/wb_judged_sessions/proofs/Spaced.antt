@@ -17,7 +17,7 @@ use Rattle.wb_member.specs.declared.calls.Call.TheVariants.{Tick, Hear}
 use Rattle.wb_policy.specs.Choices.{last_heard}
 use Rattle.wb_policy.specs.Policy.{after_answer, after_wanting}
 use Rattle.wb_policy.specs.Reports.{slice_after}
-use Rattle.wb_policy.specs.Wanting.{is_wanted}
+use Rattle.wb_policy.specs.Wanting.{is_crowded, is_wanted}
 use Rattle.wb_keeping.specs.Kept.{Calls, Doing, Line, Says, reports_page, state_of, still, want}
 use Rattle.wb_keeping.specs.Laws.{KeptLine, doing_of, fault_of}
 use Rattle.wb_keeping.specs.Performing.{Keeping, after_doing, after_line, after_lines, sees, sent_by_doing, sent_by_lines, view_of}
@@ -132,7 +132,7 @@ hears_space v k = quietly k _ (Calls (Hear v) ∷ []) (tt, tt) refl (at_once _ _
 wants_space : (name : NameValue) (anew : Bool) (k : Keeping) → Spaces k (want name anew (sees k.host) k.policy).lines (after_doing (want name anew) k)
 wants_space name anew k =
     quietly k (after_doing (want name anew) k) _ (want_says IsNoReport name anew (sees k.host) k.policy) refl (at_once _ _ (does_rest (want name anew) (want_each IsSmall are_small name anew) k).now)
-    (by (is_wanted (holds v name) (is_full v) anew (is_known v name.source) (level v name) (length v.asked) k.policy.owed v.now)) where
+    (by (is_wanted (holds v name) (is_full v) (is_crowded v.asked) anew (is_known v name.source) (level v name) (length v.asked) k.policy.owed v.now)) where
       v : View
       v = view_of k.host
 

@@ -18,7 +18,7 @@ use Rattle.wb_keeping.specs.Laws.{AreTaken, KeptLine, expand}
 use Rattle.wb_keeping.specs.Performing.{Keeping, after_line, after_lines, sees, view_of}
 use Rattle.wb_policy.specs.Policy.{Policy, after_wanting}
 use Rattle.wb_keeping.specs.Views.{holds, is_asked, is_full, level, is_known}
-use Rattle.wb_policy.specs.Wanting.{gives_way, giving_way, is_old, is_wanted, older}
+use Rattle.wb_policy.specs.Wanting.{gives_way, giving_way, is_crowded, is_old, is_wanted, older}
 use Rattle.wb_policy.specs.declared.wanting.AskedName.{AskedName}
 use Rattle.wb_keeping.proofs.AskedTimers.{count_seen, named}
 use Rattle.wb_keeping.proofs.EachStep.{HoldsOfSteps, all_hold, doing}
@@ -140,7 +140,7 @@ room_made name covered host few = by (is_asked (view_of host) name) refl where
   by false e = way_made covered host (view_of host).asked refl few
 
 wanted_few : (name : NameValue) (anew : Bool) (k : Keeping) → timer_count k.host ≤ 64 → AreFew (want name anew (sees k.host) k.policy).lines k.host
-wanted_few name anew k few = by (is_wanted (holds (view_of k.host) name) (is_full (view_of k.host)) anew (is_known (view_of k.host) name.source) (level (view_of k.host) name) (length (view_of k.host).asked) k.policy.owed (present k.host)) where
+wanted_few name anew k few = by (is_wanted (holds (view_of k.host) name) (is_full (view_of k.host)) (is_crowded (view_of k.host).asked) anew (is_known (view_of k.host) name.source) (level (view_of k.host) name) (length (view_of k.host).asked) k.policy.owed (present k.host)) where
   by : (b : Bool) → AreFew (cond b (doing (after_wanting (present k.host) k.policy) (lines_wanted name anew (sees k.host) k.policy)) (still (sees k.host) k.policy)).lines k.host
   by false = few
   by true =

@@ -24,7 +24,7 @@ use Rattle.wb_keeping.specs.Kept.{Arrives, Calls, Doing, Line, Says, measures, s
 use Rattle.wb_keeping.specs.Performing.{Keeping, after_doing, after_line, after_lines, sees, view_of}
 use Rattle.wb_policy.specs.Policy.{Policy, after_wanting, after_echo}
 use Rattle.wb_keeping.specs.Views.{holds, is_full, level, is_known}
-use Rattle.wb_policy.specs.Wanting.{is_wanted}
+use Rattle.wb_policy.specs.Wanting.{is_crowded, is_wanted}
 use Rattle.wb_keeping.proofs.EachStep.{HoldsOfParts, doing, having, having_done}
 use Rattle.wb_keeping.proofs.Performed.{after_both}
 use Rattle.wb_keeping.proofs.SpacedLines.{AreAll, either_host, missing}
@@ -137,7 +137,7 @@ module _ (P : ℕ → Type 0) (Q : Line → Opened → Type 0) (terms : Terms P 
   }
 
   wants_keep : (name : NameValue) (anew : Bool) (k : Keeping) → Keeps P Q k (want name anew (sees k.host) k.policy).lines (after_doing (want name anew) k)
-  wants_keep name anew k = by (is_wanted (holds (view_of k.host) name) (is_full (view_of k.host)) anew (is_known (view_of k.host) name.source) (level (view_of k.host) name) (length (view_of k.host).asked) k.policy.owed (present k.host)) where
+  wants_keep name anew k = by (is_wanted (holds (view_of k.host) name) (is_full (view_of k.host)) (is_crowded (view_of k.host).asked) anew (is_known (view_of k.host) name.source) (level (view_of k.host) name) (length (view_of k.host).asked) k.policy.owed (present k.host)) where
     wanted : Doing
     wanted = doing (after_wanting (present k.host) k.policy) (lines_wanted name anew (sees k.host) k.policy)
 

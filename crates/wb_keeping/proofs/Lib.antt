@@ -22,6 +22,7 @@ pub mod OwedStands
 pub mod PaidStates
 pub mod TakenTurns
 pub mod ToldReports
+pub mod Crowds
 pub mod WantedNames
 pub mod BackedOff
 pub mod SpacedLines

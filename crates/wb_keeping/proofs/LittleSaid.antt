@@ -26,7 +26,7 @@ use Rattle.wb_policy.specs.Policy.{Policy, after_answer, after_came, after_drawi
 use Rattle.wb_keeping.specs.Views.{View, holds, is_asked, is_full, level, is_known}
 use Rattle.wb_policy.specs.Questions.{answer_pause, answered_at, heard_at, is_due, is_to_answer, to_answer}
 use Rattle.wb_policy.specs.Reports.{mean_time, members_in, slice_after}
-use Rattle.wb_policy.specs.Wanting.{is_wanted}
+use Rattle.wb_policy.specs.Wanting.{is_crowded, is_wanted}
 use Rattle.wb_policy.specs.declared.questions.Questions.{Questions}
 use Rattle.wb_keeping.proofs.EachStep.{HoldsOfSteps, all_hold, doing, having, having_done, with_policy}
 use Rattle.wb_keeping.proofs.Wanted.{parts_wanted}
@@ -357,7 +357,7 @@ lent_keeps source delay name k credit = by (nat_eq delay UNKNOWN_DELAY) where
       (both_keep one two three (Calls (Ask name) ∷ []) (Calls (SetDelay source UNKNOWN_DELAY) ∷ []) (asks_keep name one credit) (plainly two (Calls (SetDelay source UNKNOWN_DELAY) ∷ []) (tt, tt)))
 
 wants_keep : (name : NameValue) (anew : Bool) (k : Keeping) → Keeps k (want name anew (sees k.host) k.policy).lines (after_doing (want name anew) k)
-wants_keep name anew k = by (is_wanted (holds v name) (is_full v) anew (is_known v name.source) (level v name) (length v.asked) k.policy.owed (present k.host)) refl where
+wants_keep name anew k = by (is_wanted (holds v name) (is_full v) (is_crowded v.asked) anew (is_known v name.source) (level v name) (length v.asked) k.policy.owed (present k.host)) refl where
   v : View
   v = view_of k.host
 
@@ -373,7 +373,7 @@ wants_keep name anew k = by (is_wanted (holds v name) (is_full v) anew (is_known
   wanted : Doing
   wanted = doing (after_wanting (present k.host) k.policy) (room ++ last)
 
-  by : (b : Bool) → is_wanted (holds v name) (is_full v) anew (is_known v name.source) (level v name) (length v.asked) k.policy.owed (present k.host) ≡ b → Keeps k (cond b wanted (still (sees k.host) k.policy)).lines (having_done (cond b wanted (still (sees k.host) k.policy)) k)
+  by : (b : Bool) → is_wanted (holds v name) (is_full v) (is_crowded v.asked) anew (is_known v name.source) (level v name) (length v.asked) k.policy.owed (present k.host) ≡ b → Keeps k (cond b wanted (still (sees k.host) k.policy)).lines (having_done (cond b wanted (still (sees k.host) k.policy)) k)
   by false e = plainly k [] tt
   by true e =
       let credit = has_place (anew || is_known v name.source) k.policy.owed (present k.host) (parts_wanted name anew (sees k.host) k.policy e).3 in

@@ -39,6 +39,7 @@ use Rattle.wb_keeping.proofs.AskedTimers.{count_seen, level_seen}
 use Rattle.wb_keeping.proofs.EachLine.{Each, each_both, lent_each, room_each}
 use Rattle.wb_keeping.proofs.EachStep.{HoldsOfSteps, PaysNothing, all_hold, doing, having, having_done, with_policy}
 use Rattle.wb_keeping.proofs.FewTimers.{oldest_stands}
+use Rattle.wb_keeping.proofs.Crowds.{few_no_crowd}
 use Rattle.wb_keeping.proofs.LittleSaid.{present_asks, present_heard}
 use Rattle.wb_keeping.proofs.Performed.{after_both}
 use Rattle.wb_keeping.proofs.Saying.{says, says_after}
@@ -483,7 +484,7 @@ pub few_are_not_refused : FewAreNotRefused
 few_are_not_refused constants number cells seed moments policy lines name few taken lt lacks room =
     let k = after_kept lines (new_keeping constants number cells seed moments policy) in
     let s = from_new constants number cells seed moments policy lines few taken in
-    wanted_is_asked name true k s.answers lacks room (⊎_elim
+    wanted_is_asked name true k s.answers lacks room (few_no_crowd (view_of k.host).asked (let count = count_seen k.host in omega (arith, count, lt))) (⊎_elim
     (λ (full : IsFull k.host). absurd (true≢false (sym full ∙ room)))
     (λ (le : k.policy.owed ≤ present k.host + timer_count k.host * 250000). le-leb (max k.policy.owed (present k.host) - present k.host) (63 * 250000) (few_owed k.policy.owed (present k.host) (timer_count k.host) le lt))
     s.owed) where

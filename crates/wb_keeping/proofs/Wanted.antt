@@ -16,7 +16,7 @@ use Rattle.wb_keeping.proofs.NearNames.{near_wanted}
 use Rattle.wb_keeping.specs.Views.{View, holds, is_asked, is_full, level, is_known}
 use Rattle.wb_keeping.specs.Steps.{AreNear, leap_in, makes_room, performs_all, want_in}
 use Rattle.wb_policy.specs.Turns.{nowhere}
-use Rattle.wb_policy.specs.Wanting.{giving_way, goes_on, is_paid, is_wanted}
+use Rattle.wb_policy.specs.Wanting.{giving_way, goes_on, is_crowded, is_paid, is_wanted}
 
 -- ---- a line to which a delay is lent, and those before it and behind it
 
@@ -35,16 +35,17 @@ lending_parts source delay usual line = by (nat_eq delay UNKNOWN_DELAY) where
 -- ---- a name that is wanted
 
 -- it is lacked, there is room, no timer goes on, and there is credit
-wanted_parts : (held full on paid : Bool) → (not held && (not full && (not on && paid))) ≡ true → (held ≡ false) × (full ≡ false) × (on ≡ false) × (paid ≡ true)
-wanted_parts false false false true e = (refl, refl, refl, refl)
-wanted_parts false false false false e = absurd (true≢false (sym e))
-wanted_parts false false true paid e = absurd (true≢false (sym e))
-wanted_parts false true on paid e = absurd (true≢false (sym e))
-wanted_parts true full on paid e = absurd (true≢false (sym e))
+wanted_parts : (held full crowded on paid : Bool) → (not held && (not full && (not crowded && (not on && paid)))) ≡ true → (held ≡ false) × (full ≡ false) × (on ≡ false) × (paid ≡ true) × (crowded ≡ false)
+wanted_parts false false false false true e = (refl, refl, refl, refl, refl)
+wanted_parts false false false false false e = absurd (true≢false (sym e))
+wanted_parts false false false true paid e = absurd (true≢false (sym e))
+wanted_parts false false true on paid e = absurd (true≢false (sym e))
+wanted_parts false true crowded on paid e = absurd (true≢false (sym e))
+wanted_parts true full crowded on paid e = absurd (true≢false (sym e))
 
 module _ (name : NameValue) (anew : Bool) (see : List Line → View) (p : Policy) where
   abbrev pub is_wanted_here : Bool
-  is_wanted_here = is_wanted (holds (see []) name) (is_full (see [])) anew (is_known (see []) name.source) (level (see []) name) (length (see []).asked) p.owed (see []).now
+  is_wanted_here = is_wanted (holds (see []) name) (is_full (see [])) (is_crowded (see []).asked) anew (is_known (see []) name.source) (level (see []) name) (length (see []).asked) p.owed (see []).now
 
   abbrev pub lines_wanted : List Line
   lines_wanted = room_lines name (covers (see []) p) (see []) ++ lending name.source ((see []).delay name.source) p.usual (Calls (Ask name))
@@ -52,8 +53,8 @@ module _ (name : NameValue) (anew : Bool) (see : List Line → View) (p : Policy
   abbrev wanted : Doing
   wanted = record { policy = after_wanting (see []).now p; lines = lines_wanted }
 
-  pub parts_wanted : is_wanted_here ≡ true → let v = see [] in (holds v name ≡ false) × (is_full v ≡ false) × (goes_on anew (covers v p) (level v name) ≡ false) × (is_paid (anew || is_known v name.source) p.owed v.now ≡ true)
-  parts_wanted e = let v = see [] in wanted_parts (holds v name) (is_full v) (goes_on anew (covers v p) (level v name)) (is_paid (anew || is_known v name.source) p.owed v.now) e
+  pub parts_wanted : is_wanted_here ≡ true → let v = see [] in (holds v name ≡ false) × (is_full v ≡ false) × (goes_on anew (covers v p) (level v name) ≡ false) × (is_paid (anew || is_known v name.source) p.owed v.now ≡ true) × (is_crowded v.asked ≡ false)
+  parts_wanted e = let v = see [] in wanted_parts (holds v name) (is_full v) (is_crowded v.asked) (goes_on anew (covers v p) (level v name)) (is_paid (anew || is_known v name.source) p.owed v.now) e
 
   pub is_asked_for : is_wanted_here ≡ true → want name anew see p ≡ wanted
   is_asked_for e = ap (λ (b : Bool). cond b wanted (still see p)) e
@@ -173,6 +174,6 @@ measured sender delay micros near see p d n ne =
     ∙ ap (λ (b : Bool). let d : Doing = record { policy = after_echo micros p; lines = cond b [] (Calls (SetDelay sender (bounded micros)) ∷ []) } in d) (ne_eqb (bounded micros) micros (λ e. ne (n ∙ e)))
     ∙ ap (λ (m : ℕ). let d : Doing = record { policy = after_echo micros p; lines = Calls (SetDelay sender m) ∷ [] } in d) (sym n)
 
-pub same_wanted : (held here full room anew known told : Bool) (old new : Option ℕ) (those these owed due then now : ℕ) → held ≡ here → full ≡ room → known ≡ told → old ≡ new → those ≡ these → owed ≡ due → then ≡ now
-    → is_wanted held full anew known old those owed then ≡ is_wanted here room anew told new these due now
-same_wanted held here full room anew known told old new those these owed due then now h f k l a o n = λ i. is_wanted (h i) (f i) anew (k i) (l i) (a i) (o i) (n i)
+pub same_wanted : (held here full room crowded crowd anew known told : Bool) (old new : Option ℕ) (those these owed due then now : ℕ) → held ≡ here → full ≡ room → crowded ≡ crowd → known ≡ told → old ≡ new → those ≡ these → owed ≡ due → then ≡ now
+    → is_wanted held full crowded anew known old those owed then ≡ is_wanted here room crowd anew told new these due now
+same_wanted held here full room crowded crowd anew known told old new those these owed due then now h f c k l a o n = λ i. is_wanted (h i) (f i) (c i) anew (k i) (l i) (a i) (o i) (n i)

@@ -32,7 +32,7 @@ use Rattle.wb_recovery.specs.declared.limits.TheConstants.{UNKNOWN_DELAY}
 use Rattle.wb_keeping.specs.Kept.{Arrives, Doing, Line, Says, covers, room_lines, stops_one, want, lending, Calls}
 use Rattle.wb_keeping.specs.Performing.{Keeping, after_doing, after_line, after_lines, sees, view_of}
 use Rattle.wb_keeping.specs.Views.{View, is_asked, is_full, level, is_known}
-use Rattle.wb_policy.specs.Wanting.{giving_way, goes_on, is_paid}
+use Rattle.wb_policy.specs.Wanting.{giving_way, goes_on, is_crowded, is_paid}
 use Rattle.wb_keeping.proofs.AskedTimers.{level_seen}
 use Rattle.wb_keeping.proofs.Performed.{after_both}
 use Rattle.wb_keeping.proofs.Wanted.{is_asked_for, is_not_asked_for, is_wanted_here, parts_wanted}
@@ -237,19 +237,20 @@ is_asked_then name anew k answers e =
       one : Opened
       one = after_lines first k.host
 
-wanted_or : (held full on credit : Bool) → held ≡ false → full ≡ false → credit ≡ true → (not held && (not full && (not on && credit))) ≡ false → on ≡ true
-wanted_or false false true true h a b e = refl
-wanted_or false false false true h a b e = absurd (true≢false e)
-wanted_or false false on false h a b e = absurd (true≢false (sym b))
-wanted_or false true on credit h a b e = absurd (true≢false a)
-wanted_or true full on credit h a b e = absurd (true≢false h)
+wanted_or : (held full crowded on credit : Bool) → held ≡ false → full ≡ false → crowded ≡ false → credit ≡ true → (not held && (not full && (not crowded && (not on && credit)))) ≡ false → on ≡ true
+wanted_or false false false true true h a c b e = refl
+wanted_or false false false false true h a c b e = absurd (true≢false e)
+wanted_or false false false on false h a c b e = absurd (true≢false (sym b))
+wanted_or false false true on credit h a c b e = absurd (true≢false c)
+wanted_or false true crowded on credit h a c b e = absurd (true≢false a)
+wanted_or true full crowded on credit h a c b e = absurd (true≢false h)
 
 went_on : (anew covered : Bool) (o : Option ℕ) → goes_on anew covered o ≡ true → is_some o ≡ true
 went_on anew covered None e = absurd (true≢false (sym e))
 went_on anew covered (Some n) e = refl
 
 pub wanted_is_asked : WantedIsAsked
-wanted_is_asked name anew k answers lacks room credit = by (is_wanted_here name anew (sees k.host) k.policy) refl where
+wanted_is_asked name anew k answers lacks room place credit = by (is_wanted_here name anew (sees k.host) k.policy) refl where
   v : View
   v = view_of k.host
 
@@ -261,4 +262,4 @@ wanted_is_asked name anew k answers lacks room credit = by (is_wanted_here name 
   by false e =
       ap (λ (d : Doing). is_asked (view_of (after_lines d.lines k.host)) name) (is_not_asked_for name anew (sees k.host) k.policy e)
       ∙ went_on anew (covers v k.policy) (level v name)
-      (wanted_or (holds k.host.is.held name) (is_full v) on (is_paid (anew || is_known v name.source) k.policy.owed (present k.host)) lacks room credit e)
+      (wanted_or (holds k.host.is.held name) (is_full v) (is_crowded v.asked) on (is_paid (anew || is_known v name.source) k.policy.owed (present k.host)) lacks room place credit e)

@@ -7,7 +7,7 @@ use Rattle.wb_recovery.specs.declared.tuning.Tuning.{Tuning}
 use Rattle.wb_policy.specs.Choices.{last_heard}
 use Rattle.wb_policy.specs.Fairness.{Told, after_telling, after_turn, marks_in_turn, page_in_turn}
 use Rattle.wb_policy.specs.Policy.{Policy}
-use Rattle.wb_policy.specs.Wanting.{is_paid}
+use Rattle.wb_policy.specs.Wanting.{is_crowded, is_paid}
 use Rattle.wb_member.specs.Opened.{Opened, events, opened_with, present}
 use Rattle.wb_keeping.specs.Kept.{Line, Says, reports, turn, want}
 use Rattle.wb_keeping.specs.Performing.{Keeping, after_doing, after_lines, view_of}
@@ -39,7 +39,7 @@ AnswersWhatIsHeld host = (name : NameValue) → is_answering host name ≡ true 
 abbrev pub OnlyHeldIsAnswered : Type 0
 OnlyHeldIsAnswered = (constants : Tuning) (number cells seed : ℕ) (lines : List Line) → AnswersWhatIsHeld (after_lines lines (opened_with constants number cells seed))
 
--- A name that is wanted has a request timer then, unless it is held, the board is full, or there is no credit.
+-- A name that is wanted has a request timer then, unless it is held, the board is full, 64 timers stand that were not backed off, or there is no credit.
 abbrev pub WantedIsAsked : Type 0
-WantedIsAsked = (name : NameValue) (anew : Bool) (k : Keeping) → AnswersWhatIsHeld k.host → holds (view_of k.host) name ≡ false → is_full (view_of k.host) ≡ false → is_paid (anew || is_known (view_of k.host) name.source) k.policy.owed (present k.host) ≡ true
+WantedIsAsked = (name : NameValue) (anew : Bool) (k : Keeping) → AnswersWhatIsHeld k.host → holds (view_of k.host) name ≡ false → is_full (view_of k.host) ≡ false → is_crowded (view_of k.host).asked ≡ false → is_paid (anew || is_known (view_of k.host) name.source) k.policy.owed (present k.host) ≡ true
     → is_asked (view_of (after_doing (want name anew) k).host) name ≡ true

@@ -25,7 +25,7 @@ use Rattle.wb_policy.specs.Questions.{is_due, is_to_answer}
 use Rattle.wb_policy.specs.Reports.{members_in, page_after, rest_after, slice_after, report_bytes}
 use Rattle.wb_policy.specs.Turns.{name_in, nowhere}
 use Rattle.wb_policy.specs.Credit.{is_covered}
-use Rattle.wb_policy.specs.Wanting.{giving_way, is_wanted, passes_on, young_count}
+use Rattle.wb_policy.specs.Wanting.{giving_way, is_crowded, is_wanted, passes_on, young_count}
 use Rattle.wb_policy.specs.declared.wanting.AskedName.{AskedName}
 
 -- what a policy does: the lines that its host performs, and the policy afterwards
@@ -73,7 +73,7 @@ and_then first second see p =
 abbrev pub want : NameValue → Bool → Transition
 want name anew see p =
     let v = see [] in
-    if is_wanted (holds v name) (is_full v) anew (is_known v name.source) (level v name) (length v.asked) p.owed v.now
+    if is_wanted (holds v name) (is_full v) (is_crowded v.asked) anew (is_known v name.source) (level v name) (length v.asked) p.owed v.now
     then record { policy = after_wanting v.now p; lines = room_lines name (covers v p) v ++ lending name.source (v.delay name.source) p.usual (Calls (Ask name)) }
     else still see p
 

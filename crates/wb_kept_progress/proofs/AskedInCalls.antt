@@ -19,7 +19,7 @@ use Rattle.wb_keeping.specs.Performing.{Keeping, after_doing, after_line, after_
 use Rattle.wb_policy.specs.Policy.{Policy, after_state, after_taking_up, after_wanting, after_echo}
 use Rattle.wb_keeping.specs.Views.{View, holds, is_asked, is_full, level, is_known}
 use Rattle.wb_policy.specs.Questions.{is_to_answer}
-use Rattle.wb_policy.specs.Wanting.{is_wanted}
+use Rattle.wb_policy.specs.Wanting.{is_crowded, is_wanted}
 use Rattle.wb_keeping.proofs.EachStep.{doing, having, having_done, with_policy}
 use Rattle.wb_keeping.proofs.Performed.{seen_then, then_after}
 use Rattle.wb_keeping.proofs.Wanted.{lines_wanted, lending_parts, lent_first, taken_back}
@@ -151,7 +151,7 @@ module _ (P : NameValue → Type 0) where
   nothing_asked k = record { stays = as_it_was k; asks = tt; owed = inr refl }
 
   want_asks : (name : NameValue) (anew : Bool) (k : Keeping) → P name → At (want name anew) k
-  want_asks name anew k is = by (is_wanted (holds v name) (is_full v) anew (is_known v name.source) (level v name) (length v.asked) k.policy.owed v.now) (want_each IsSmall are_small name anew (sees k.host) k.policy) where
+  want_asks name anew k is = by (is_wanted (holds v name) (is_full v) (is_crowded v.asked) anew (is_known v name.source) (level v name) (length v.asked) k.policy.owed v.now) (want_each IsSmall are_small name anew (sees k.host) k.policy) where
     v : View
     v = view_of k.host
 

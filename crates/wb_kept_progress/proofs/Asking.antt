@@ -28,7 +28,7 @@ use Rattle.wb_keeping.specs.Kept.{Doing, Line, covers, room_lines, still, stops_
 use Rattle.wb_keeping.specs.Performing.{Keeping, after_doing, after_line, after_lines, asked_name, asked_with, sees, view_of}
 use Rattle.wb_policy.specs.Policy.{after_wanting}
 use Rattle.wb_keeping.specs.Views.{View, holds, is_asked, is_full, level as level_by, is_known}
-use Rattle.wb_policy.specs.Wanting.{gives_way, giving_way, goes_on, is_old, is_wanted, older}
+use Rattle.wb_policy.specs.Wanting.{gives_way, giving_way, goes_on, is_crowded, is_old, is_wanted, older}
 use Rattle.wb_policy.specs.declared.wanting.AskedName.{AskedName}
 use Rattle.wb_keeping.proofs.AskedTimers.{level_seen, named}
 use Rattle.wb_keeping.proofs.Performed.{after_both, then_after}
@@ -302,7 +302,7 @@ module _ (name : NameValue) (anew : Bool) (k : Keeping) where
   done b = let d : Doing = cond b wanted (still (sees k.host) k.policy) in record { host = after_lines d.lines k.host; policy = d.policy }
 
   abbrev is_so : Bool
-  is_so = is_wanted (holds v name) (is_full v) anew (is_known v name.source) (level_by v name) (length v.asked) k.policy.owed v.now
+  is_so = is_wanted (holds v name) (is_full v) (is_crowded v.asked) anew (is_known v name.source) (level_by v name) (length v.asked) k.policy.owed v.now
 
   new_back : (m : NameValue) → IsNew last m → (name ≡ m) ⊎ IsNew k.host m
   new_back m new = ⊎_elim
@@ -435,7 +435,7 @@ stays_asked name anew k n is =
     record { names = more.0; are = more.1; new = new_stays name anew k is.names is.are n is.new }
 
 owed_then : (name : NameValue) (anew : Bool) (k : Keeping) (used : ℕ) → k.policy.owed ≤ present k.host + used * COST → (after_doing (want name anew) k).policy.owed ≤ present k.host + suc used * COST
-owed_then name anew k used le = by (is_wanted (holds (view_of k.host) name) (is_full (view_of k.host)) anew (is_known (view_of k.host) name.source) (level_by (view_of k.host) name) (length (view_of k.host).asked) k.policy.owed (present k.host)) where
+owed_then name anew k used le = by (is_wanted (holds (view_of k.host) name) (is_full (view_of k.host)) (is_crowded (view_of k.host).asked) anew (is_known (view_of k.host) name.source) (level_by (view_of k.host) name) (length (view_of k.host).asked) k.policy.owed (present k.host)) where
   wanted : Doing
   wanted = record { policy = after_wanting (present k.host) k.policy; lines = lines_wanted name anew (sees k.host) k.policy }
 

@@ -14,7 +14,7 @@ use Rattle.wb_keeping.specs.Laws.{KeptLine, doing_of, fault_of}
 use Rattle.wb_keeping.specs.Performing.{Keeping, after_doing, after_lines, sees, view_of}
 use Rattle.wb_policy.specs.Policy.{after_wanting}
 use Rattle.wb_keeping.specs.Views.{View, holds, is_full, level, is_known}
-use Rattle.wb_policy.specs.Wanting.{is_wanted}
+use Rattle.wb_policy.specs.Wanting.{is_crowded, is_wanted}
 use Rattle.wb_keeping.proofs.EachStep.{HoldsOfSteps, line_holds}
 use Rattle.wb_keeping.proofs.Performed.{after_both}
 use Rattle.wb_keeping.proofs.StandingTimers.{stands_asked}
@@ -63,7 +63,7 @@ both_stand k m l one other a b = record { at = b.at ∙ ap (after_lines other) a
       (Contains-append_cases one other (Calls (Ask n)) c)
 
 wants_stand : (name : NameValue) (anew : Bool) (k : Keeping) → AsksStand k (want name anew (sees k.host) k.policy).lines (after_doing (want name anew) k)
-wants_stand name anew k = record { at = refl; stand = λ answers_held n c. by answers_held n (is_wanted (holds v name) (is_full v) anew (is_known v name.source) (level v name) (length v.asked) k.policy.owed v.now) refl c } where
+wants_stand name anew k = record { at = refl; stand = λ answers_held n c. by answers_held n (is_wanted (holds v name) (is_full v) (is_crowded v.asked) anew (is_known v name.source) (level v name) (length v.asked) k.policy.owed v.now) refl c } where
   v : View
   v = view_of k.host
 
@@ -127,7 +127,7 @@ wants_stand name anew k = record { at = refl; stand = λ answers_held n c. by an
       ap (λ (ls : List Line). first ++ ls) (parts ∙ sym (append_assoc usual (Calls (Ask name) ∷ []) back))
       ∙ sym (append_assoc first (usual ++ Calls (Ask name) ∷ []) back)
 
-  asked : AnswersWhatIsHeld k.host → is_wanted (holds v name) (is_full v) anew (is_known v name.source) (level v name) (length v.asked) k.policy.owed v.now ≡ true → asks_for name (after_lines before k.host) ≡ true
+  asked : AnswersWhatIsHeld k.host → is_wanted (holds v name) (is_full v) (is_crowded v.asked) anew (is_known v name.source) (level v name) (length v.asked) k.policy.owed v.now ≡ true → asks_for name (after_lines before k.host) ≡ true
   asked answers_held e =
       sym (asks_back (after_lines before k.host))
       ∙ ap (asks_for name) (sym (after_both before back k.host))
@@ -136,7 +136,7 @@ wants_stand name anew k = record { at = refl; stand = λ answers_held n c. by an
       ∙ stands_asked (after_doing (want name anew) k).host name
       (is_asked_then name anew k answers_held e)
 
-  by : AnswersWhatIsHeld k.host → (n : NameValue) (b : Bool) → is_wanted (holds v name) (is_full v) anew (is_known v name.source) (level v name) (length v.asked) k.policy.owed v.now ≡ b
+  by : AnswersWhatIsHeld k.host → (n : NameValue) (b : Bool) → is_wanted (holds v name) (is_full v) (is_crowded v.asked) anew (is_known v name.source) (level v name) (length v.asked) k.policy.owed v.now ≡ b
       → Contains (so b).lines (Calls (Ask n)) → Stands (so b).lines k.host n
   by answers_held n false e c = absurd (Contains-none (Calls (Ask n)) c)
   by answers_held n true e c =

@@ -22,7 +22,7 @@ use Rattle.wb_keeping.specs.Views.{View, holds, is_full, level, is_known}
 use Rattle.wb_policy.specs.Questions.{is_due}
 use Rattle.wb_policy.specs.Reports.{rest_after}
 use Rattle.wb_policy.specs.Turns.{name_in, nowhere}
-use Rattle.wb_policy.specs.Wanting.{is_wanted}
+use Rattle.wb_policy.specs.Wanting.{is_crowded, is_wanted}
 use Rattle.wb_policy.specs.declared.turns.Turns.{Turns}
 use Rattle.wb_keeping.proofs.EachStep.{doing, having, having_done, with_policy}
 use Rattle.wb_keeping.proofs.Performed.{then_after}
@@ -52,7 +52,7 @@ record TakesTurn (k : Keeping) (lines : List Line) (m : Keeping) : Type 0 where
 
 turn_wants : (n : NameValue) (p : Policy) (k : Keeping) → p.owed ≡ k.policy.owed → name_in_turn k.host.is.held k.policy.turns ≡ Some n
     → TakesTurn k (want n true (sees k.host) p).lines (having_done (want n true (sees k.host) p) k)
-turn_wants n p k same is = by (is_wanted (holds v n) (is_full v) true (is_known v n.source) (level v n) (length v.asked) p.owed v.now) where
+turn_wants n p k same is = by (is_wanted (holds v n) (is_full v) (is_crowded v.asked) true (is_known v n.source) (level v n) (length v.asked) p.owed v.now) where
   v : View
   v = view_of k.host
 

@@ -20,7 +20,7 @@ use Rattle.wb_keeping.specs.Laws.{KeptLine, doing_of, fault_of}
 use Rattle.wb_keeping.specs.Performing.{Keeping, after_doing, after_line, after_lines, sees, view_of}
 use Rattle.wb_policy.specs.Policy.{Policy, after_wanting}
 use Rattle.wb_keeping.specs.Views.{View, holds, is_full, level, is_known}
-use Rattle.wb_policy.specs.Wanting.{is_wanted}
+use Rattle.wb_policy.specs.Wanting.{is_crowded, is_wanted}
 use Rattle.wb_keeping.proofs.EachStep.{HoldsOfSteps, line_holds}
 use Rattle.wb_keeping.proofs.Performed.{after_both}
 use Rattle.wb_keeping.proofs.Wanted.{lines_wanted}
@@ -97,7 +97,7 @@ bounded_fits : (micros : ℕ) → bounded micros ≤ farthest
 bounded_fits micros = let near = bounded_near micros in omega (arith, near)
 
 wants_on : (name : NameValue) (anew : Bool) (k : Keeping) → GoesOn k (want name anew (sees k.host) k.policy).lines (after_doing (want name anew) k)
-wants_on name anew k = record { at = refl; goes = λ g. by g (is_wanted (holds v name) (is_full v) anew (is_known v name.source) (level v name) (length v.asked) k.policy.owed v.now) } where
+wants_on name anew k = record { at = refl; goes = λ g. by g (is_wanted (holds v name) (is_full v) (is_crowded v.asked) anew (is_known v name.source) (level v name) (length v.asked) k.policy.owed v.now) } where
   v : View
   v = view_of k.host
 

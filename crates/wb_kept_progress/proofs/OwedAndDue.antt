@@ -15,7 +15,7 @@ use Rattle.wb_keeping.specs.Performing.{Keeping, after_doing, sees, view_of}
 use Rattle.wb_policy.specs.Pace.{gap_within}
 use Rattle.wb_policy.specs.Policy.{after_answer, after_wanting}
 use Rattle.wb_keeping.specs.Views.{View, holds, is_full, level, is_known}
-use Rattle.wb_policy.specs.Wanting.{is_wanted}
+use Rattle.wb_policy.specs.Wanting.{is_crowded, is_wanted}
 use Rattle.wb_policy.specs.Words.{started, word_of}
 use Rattle.wb_policy.proofs.Gaps.{gap_most}
 use Rattle.wb_policy.proofs.Spending.{has_place}
@@ -62,9 +62,9 @@ hears_near v k n = by (has_room_for v k.host) where
 
 wants_near : (name : NameValue) (anew : Bool) (k : Keeping) → IsNearNow k → IsNearNow (after_doing (want name anew) k)
 wants_near name anew k n = record {
-  owed = let o = by (is_wanted (holds v name) (is_full v) anew (is_known v name.source) (level v name) (length v.asked) k.policy.owed v.now) refl in let t = now in omega (arith, o, t);
-  due = let d = due_by (is_wanted (holds v name) (is_full v) anew (is_known v name.source) (level v name) (length v.asked) k.policy.owed v.now) in let t = now in let near = n.due in omega (arith, d, t, near);
-  beat = let d = beat_by (is_wanted (holds v name) (is_full v) anew (is_known v name.source) (level v name) (length v.asked) k.policy.owed v.now) in let t = now in let near = n.beat in omega (arith, d, t, near);
+  owed = let o = by (is_wanted (holds v name) (is_full v) (is_crowded v.asked) anew (is_known v name.source) (level v name) (length v.asked) k.policy.owed v.now) refl in let t = now in omega (arith, o, t);
+  due = let d = due_by (is_wanted (holds v name) (is_full v) (is_crowded v.asked) anew (is_known v name.source) (level v name) (length v.asked) k.policy.owed v.now) in let t = now in let near = n.due in omega (arith, d, t, near);
+  beat = let d = beat_by (is_wanted (holds v name) (is_full v) (is_crowded v.asked) anew (is_known v name.source) (level v name) (length v.asked) k.policy.owed v.now) in let t = now in let near = n.beat in omega (arith, d, t, near);
 } where
   v : View
   v = view_of k.host
@@ -78,7 +78,7 @@ wants_near name anew k n = record {
   one_more : (owed now : ℕ) → max owed now - now ≤ 63 * COST → max owed now + COST ≤ now + 16000000
   one_more owed now le = omega (arith, le)
 
-  by : (b : Bool) → is_wanted (holds v name) (is_full v) anew (is_known v name.source) (level v name) (length v.asked) k.policy.owed v.now ≡ b
+  by : (b : Bool) → is_wanted (holds v name) (is_full v) (is_crowded v.asked) anew (is_known v name.source) (level v name) (length v.asked) k.policy.owed v.now ≡ b
       → (let d : Doing = cond b wanted (still (sees k.host) k.policy) in d.policy.owed) ≤ present k.host + 16000000
   by false e = n.owed
   by true e =

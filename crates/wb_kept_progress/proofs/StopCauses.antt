@@ -15,7 +15,7 @@ use Rattle.wb_keeping.specs.Laws.{fault_of}
 use Rattle.wb_keeping.specs.Performing.{Keeping, after_line, after_lines, sees, view_of}
 use Rattle.wb_policy.specs.Policy.{Policy, after_wanting}
 use Rattle.wb_keeping.specs.Views.{View, holds, level, is_full as shows_full, is_known}
-use Rattle.wb_policy.specs.Wanting.{gives_way, goes_on, is_old, is_wanted, oldest, way_of}
+use Rattle.wb_policy.specs.Wanting.{gives_way, goes_on, is_crowded, is_old, is_wanted, oldest, way_of}
 use Rattle.wb_policy.specs.declared.wanting.AskedName.{AskedName}
 use Rattle.wb_keeping.proofs.AskedTimers.{level_seen}
 use Rattle.wb_keeping.proofs.EachStep.{HoldsOfSteps, doing, line_holds}
@@ -128,17 +128,17 @@ off_old anew covered l e = leb-true _ _ (by anew (is_old l) e) where
   by false late e = absurd (true≢false e)
 
 wanted_caused : (name : NameValue) (anew : Bool) (k : Keeping) → AreCaused (want name anew (sees k.host) k.policy).lines k.host
-wanted_caused name anew k = by (is_wanted (holds v name) (shows_full v) anew (is_known v name.source) (level v name) (length v.asked) k.policy.owed v.now) refl where
+wanted_caused name anew k = by (is_wanted (holds v name) (shows_full v) (is_crowded v.asked) anew (is_known v name.source) (level v name) (length v.asked) k.policy.owed v.now) refl where
   v : View
   v = view_of k.host
 
   wanted : Doing
   wanted = doing (after_wanting v.now k.policy) (lines_wanted name anew (sees k.host) k.policy)
 
-  old : is_wanted (holds v name) (shows_full v) anew (is_known v name.source) (level v name) (length v.asked) k.policy.owed v.now ≡ true → (l : ℕ) → level v name ≡ Some l → 4 ≤ l
+  old : is_wanted (holds v name) (shows_full v) (is_crowded v.asked) anew (is_known v name.source) (level v name) (length v.asked) k.policy.owed v.now ≡ true → (l : ℕ) → level v name ≡ Some l → 4 ≤ l
   old e l is = off_old anew (covers v k.policy) l (ap (goes_on anew (covers v k.policy)) (sym is) ∙ (parts_wanted name anew (sees k.host) k.policy e).2)
 
-  by : (b : Bool) → is_wanted (holds v name) (shows_full v) anew (is_known v name.source) (level v name) (length v.asked) k.policy.owed v.now ≡ b
+  by : (b : Bool) → is_wanted (holds v name) (shows_full v) (is_crowded v.asked) anew (is_known v name.source) (level v name) (length v.asked) k.policy.owed v.now ≡ b
       → AreCaused (cond b wanted (still (sees k.host) k.policy)).lines k.host
   by false e = tt
   by true e =

@@ -29,7 +29,7 @@ use Rattle.wb_keeping.specs.Performing.{Keeping, after_doing, after_line, after_
 use Rattle.wb_policy.specs.Policy.{Policy, after_wanting}
 use Rattle.wb_keeping.specs.Views.{View, holds, is_full, level, is_known}
 use Rattle.wb_policy.specs.Reports.{is_untold, slice_after}
-use Rattle.wb_policy.specs.Wanting.{is_wanted}
+use Rattle.wb_policy.specs.Wanting.{is_crowded, is_wanted}
 use Rattle.wb_keeping.proofs.EachStep.{HoldsOfSteps, doing, line_holds}
 use Rattle.wb_keeping.proofs.Performed.{after_both, sent_by_both}
 use Rattle.wb_keeping.proofs.Wanted.{lines_wanted}
@@ -141,7 +141,7 @@ all_silent [] host v none c = Contains-none v c
 all_silent (line ∷ lines) host v none c = ⊎_elim (silent line host v none.0) (all_silent lines (after_line line host) v none.1) (Contains-append_cases (sent_by_line line host) (sent_by_lines lines (after_line line host)) v c)
 
 want_none : (name : NameValue) (anew : Bool) (see : List Line → View) (p : Policy) → AreSilent (want name anew see p).lines
-want_none name anew see p = by (is_wanted (holds v name) (is_full v) anew (is_known v name.source) (level v name) (length v.asked) p.owed v.now) where
+want_none name anew see p = by (is_wanted (holds v name) (is_full v) (is_crowded v.asked) anew (is_known v name.source) (level v name) (length v.asked) p.owed v.now) where
   v : View
   v = see []
 

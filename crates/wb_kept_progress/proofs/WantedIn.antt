@@ -1,4 +1,4 @@
--- A name that is wanted has a timer behind some lines of what is done, or there is no credit behind all of it.
+-- A name that is wanted has a timer behind some lines of what is done, or there is no credit behind all of it, or 64 timers stand that were not backed off.
 use Rattle.std.proofs.Common.{◌≡◌, ℕ, ◌+◌, ◌-◌, ◌*◌, ◌≤◌, Bool, true, false, cond, List, [], ◌∷◌, ◌++◌, ◌∙◌, Option, Some, None, ap, append-nil, append_assoc, arith, inl, inr, length, refl, subst, sym, true≢false, ⊎_elim}
 use Rattle.std.specs.Prelude.{◌⊎◌, Contains, max, nat_le, take}
 use Rattle.std.specs.Option.{option_map, option_or}
@@ -10,7 +10,7 @@ use Rattle.wb_gaps.specs.Holes.{hole_after}
 use Rattle.wb_gaps.specs.declared.holes.Hole.{Hole}
 use Rattle.wb_keeper.specs.Keeper.{holds}
 use Rattle.wb_member.specs.Judged.{is_full}
-use Rattle.wb_member.specs.Opened.{asks_for, present}
+use Rattle.wb_member.specs.Opened.{Opened, asks_for, present}
 use Rattle.wb_member.specs.declared.calls.Call.TheVariants.{Tick}
 use Rattle.wb_policy.specs.Credit.{has_credit}
 use Rattle.wb_policy.specs.declared.limits.TheConstants.{COST}
@@ -21,6 +21,8 @@ use Rattle.wb_keeping.specs.Performing.{Keeping, after_doing, after_lines, sees,
 use Rattle.wb_policy.specs.Policy.{after_turn, after_wanting, in_next_round, Policy}
 use Rattle.wb_keeping.specs.Views.{View}
 use Rattle.wb_policy.specs.Turns.{name_in, nowhere}
+use Rattle.wb_policy.specs.Wanting.{is_crowded}
+use Rattle.wb_keeping.proofs.Crowds.{crowd_still}
 use Rattle.wb_keeping.proofs.EachStep.{having, with_policy, HoldsOfDue, told_holds, timed_holds}
 use Rattle.wb_keeping.proofs.Performed.{after_both, seen_then, then_after}
 use Rattle.wb_keeping.proofs.StandingTimers.{stands_asked}
@@ -49,8 +51,9 @@ pub record IsAskedInCall (n : NameValue) (does : Transition) (k : Keeping) : Typ
   pub lines : (does (sees k.host) k.policy).lines ≡ (first ∷ before) ++ later
   pub stands : asks_for n (after_lines (first ∷ before) k.host) ≡ true
 
+-- there is no credit, or no place among the timers
 abbrev pub LacksCredit : Keeping → Type 0
-LacksCredit k = has_credit k.policy.owed (present k.host) ≡ false
+LacksCredit k = (has_credit k.policy.owed (present k.host) ≡ false) ⊎ (is_crowded (view_of k.host).asked ≡ true)
 
 abbrev pub IsWantedIn : NameValue → Transition → Keeping → Type 0
 IsWantedIn n does k = IsAskedIn n does k ⊎ LacksCredit (after_doing does k)
@@ -107,16 +110,17 @@ asked_behind_tick n now second k a = record {
 
 -- ---- what is owed
 
--- time stands, and nothing is paid back
+-- time stands, nothing is paid back, and none of a crowd gives way
 pub record CostsMore (k m : Keeping) : Type 0 where
   pub owed : k.policy.owed ≤ m.policy.owed
   pub now : present m.host ≡ present k.host
+  pub crowd : is_crowded (view_of k.host).asked ≡ true → is_crowded (view_of m.host).asked ≡ true
 
 pub costs_nothing : (k : Keeping) → CostsMore k k
-costs_nothing k = record { owed = omega arith; now = refl }
+costs_nothing k = record { owed = omega arith; now = refl; crowd = λ crowd. crowd }
 
 pub costs_both : (k m n : Keeping) → CostsMore k m → CostsMore m n → CostsMore k n
-costs_both k m n one other = record { owed = let a = one.owed in let b = other.owed in omega (arith, a, b); now = other.now ∙ one.now }
+costs_both k m n one other = record { owed = let a = one.owed in let b = other.owed in omega (arith, a, b); now = other.now ∙ one.now; crowd = λ crowd. other.crowd (one.crowd crowd) }
 
 pub no_credit_then : (owed owes now : ℕ) → owed ≤ owes → has_credit owed now ≡ false → has_credit owes now ≡ false
 no_credit_then owed owes now le none = false_from_ne_true (has_credit owes now) (λ e.
@@ -124,11 +128,13 @@ no_credit_then owed owes now le none = false_from_ne_true (has_credit owes now) 
     true≢false (sym (le-leb (max owed now - now) (63 * COST) (omega (arith, few, le))) ∙ none))
 
 pub stays_without : (k m : Keeping) → CostsMore k m → LacksCredit k → LacksCredit m
-stays_without k m costs without =
-    no_credit_then k.policy.owed m.policy.owed (present m.host) costs.owed (ap (λ (now : ℕ). has_credit k.policy.owed now) costs.now ∙ without)
+stays_without k m costs without = ⊎_elim
+    (λ (none : has_credit k.policy.owed (present k.host) ≡ false). inl (no_credit_then k.policy.owed m.policy.owed (present m.host) costs.owed (ap (λ (now : ℕ). has_credit k.policy.owed now) costs.now ∙ none)))
+    (λ (crowd : is_crowded (view_of k.host).asked ≡ true). inr (costs.crowd crowd))
+    without
 
 pub want_costs : (name : NameValue) (anew : Bool) (k : Keeping) → CostsMore k (after_doing (want name anew) k)
-want_costs name anew k = record { owed = by (is_wanted_here name anew (sees k.host) k.policy); now = (does_rest (want name anew) (want_each IsSmall are_small name anew) k).now } where
+want_costs name anew k = record { owed = by (is_wanted_here name anew (sees k.host) k.policy); now = (does_rest (want name anew) (want_each IsSmall are_small name anew) k).now; crowd = λ crowd. subst (λ (d : Doing). is_crowded (view_of (after_lines d.lines k.host)).asked ≡ true) (sym (crowd_still name anew k crowd)) crowd } where
   wanted : Doing
   wanted = record { policy = after_wanting (present k.host) k.policy; lines = lines_wanted name anew (sees k.host) k.policy }
 
@@ -166,11 +172,11 @@ costs = record {
   nothing = costs_nothing;
   both = λ k m n one other a b. costs_both k m n a b;
   wants = want_costs;
-  turned = λ t l k. record { owed = omega arith; now = refl };
-  beats = λ k due. record { owed = omega arith; now = refl };
-  answers = λ k is. record { owed = omega arith; now = ap present (says_after (view_of k.host) (take 64 (pages_of k.host.is.held)) k.host) };
-  asks_pages = λ k is. record { owed = omega arith; now = refl };
-  reports = λ page until told k is. record { owed = omega arith; now = refl };
+  turned = λ t l k. record { owed = omega arith; now = refl; crowd = λ crowd. crowd };
+  beats = λ k due. record { owed = omega arith; now = refl; crowd = λ crowd. crowd };
+  answers = λ k is. record { owed = omega arith; now = ap present (says_after (view_of k.host) (take 64 (pages_of k.host.is.held)) k.host); crowd = λ crowd. subst (λ (h : Opened). is_crowded (view_of h).asked ≡ true) (sym (says_after (view_of k.host) (take 64 (pages_of k.host.is.held)) k.host)) crowd };
+  asks_pages = λ k is. record { owed = omega arith; now = refl; crowd = λ crowd. crowd };
+  reports = λ page until told k is. record { owed = omega arith; now = refl; crowd = λ crowd. crowd };
 }
 
 told_costs : (names : List NameValue) (k : Keeping) → CostsMore k (after_doing (want_told names) k)
@@ -215,13 +221,17 @@ wanted_later n first second k is = ⊎_elim
     is
 
 pub is_wanted_so : (n : NameValue) (k : Keeping) → MayBeWanted k n → IsAskedThen n (after_doing (want n true) k)
-is_wanted_so n k may = by (has_credit k.policy.owed (present k.host)) refl where
+is_wanted_so n k may = by_place (is_crowded (view_of k.host).asked) refl where
   m : Keeping
   m = after_doing (want n true) k
 
-  by : (b : Bool) → has_credit k.policy.owed (present k.host) ≡ b → IsAskedThen n m
-  by true credit = inl (stands_asked m.host n (wanted_is_asked n true k may.answers_held may.lacks may.room credit))
-  by false none = inr (stays_without k m (want_costs n true k) none)
+  by : is_crowded (view_of k.host).asked ≡ false → (b : Bool) → has_credit k.policy.owed (present k.host) ≡ b → IsAskedThen n m
+  by place true credit = inl (stands_asked m.host n (wanted_is_asked n true k may.answers_held may.lacks may.room place credit))
+  by place false none = inr (stays_without k m (want_costs n true k) (inl none))
+
+  by_place : (b : Bool) → is_crowded (view_of k.host).asked ≡ b → IsAskedThen n m
+  by_place true crowd = inr (stays_without k m (want_costs n true k) (inr crowd))
+  by_place false place = by place (has_credit k.policy.owed (present k.host)) refl
 
 pub told_is_wanted : (names : List NameValue) (n : NameValue) (k : Keeping) → Contains names n → MayBeWanted k n → IsWantedIn n (want_told names) k
 told_is_wanted [] n k among may = absurd (Contains-none n among)
@@ -255,13 +265,13 @@ module _ (n : NameValue) (r : Keeping) (may : MayBeWanted r n) where
   to_it None None e = absurd (none-some n e)
 
   -- where a place of the credit is left, it is asked for
-  module _ (credit : has_credit r.policy.owed (present r.host) ≡ true) where
+  module _ (place : is_crowded (view_of r.host).asked ≡ false) (credit : has_credit r.policy.owed (present r.host) ≡ true) where
     asked_by : (q : Policy) (name : NameValue) → q.owed ≡ r.policy.owed → name ≡ n → asks_for n (after_doing (want name true) (with_policy q r)).host ≡ true
     asked_by q name owed e =
         let m = with_policy q r in
         subst (λ (x : NameValue). asks_for n (after_doing (want x true) m).host ≡ true) (sym e)
         (stands_asked (after_doing (want n true) m).host n
-        (wanted_is_asked n true m may.answers_held may.lacks may.room (ap (λ (o : ℕ). has_credit o (present r.host)) owed ∙ credit)))
+        (wanted_is_asked n true m may.answers_held may.lacks may.room place (ap (λ (o : ℕ). has_credit o (present r.host)) owed ∙ credit)))
 
     asked_to : (next first : Option Hole) → option_map (name_in (in_round next r.policy.turns)) (option_or next first) ≡ Some n
         → asks_for n (after_doing (turn_to next first) r).host ≡ true

@@ -1,5 +1,5 @@
 -- Which names are asked for.
-use Rattle.std.specs.Prelude.{ℕ, Bool, true, false, not, ◌&&◌, ◌||◌, List, [], ◌∷◌, Option, Some, None, filter, length, nat_le, nat_lt, if◌then◌else◌}
+use Rattle.std.specs.Prelude.{ℕ, Bool, true, false, not, ◌&&◌, ◌||◌, List, [], ◌∷◌, Option, Some, None, filter, length, nat_eq, nat_le, nat_lt, if◌then◌else◌}
 use Rattle.std.specs.List.{fold}
 use Rattle.wb_policy.specs.Credit.{has_credit, is_covered, leaves_some}
 use Rattle.wb_recovery.specs.declared.limits.TheConstants.{MOST_TIMERS}
@@ -20,10 +20,10 @@ abbrev pub is_paid : Bool → ℕ → ℕ → Bool
 is_paid true owed now = has_credit owed now
 is_paid false owed now = leaves_some owed now
 
--- While `count` timers stand, a name that is not held is asked for if the board has room for it, no timer of it goes on, and there is credit. Neighbours of what
--- came come last if their source told no delay, so that drawops that are forged with holes leave room for what members draw and report.
-abbrev pub is_wanted : Bool → Bool → Bool → Bool → Option ℕ → ℕ → ℕ → ℕ → Bool
-is_wanted held full anew known level count owed now = not held && (not full && (not (goes_on anew (is_covered count owed now) level) && is_paid (anew || known) owed now))
+-- While `count` timers stand, a name that is not held is asked for if the board has room for it, they are no crowd, no timer of it goes on, and there is
+-- credit. Neighbours of what came come last if their source told no delay, so that drawops that are forged with holes leave room for what members draw and report.
+abbrev pub is_wanted : Bool → Bool → Bool → Bool → Bool → Option ℕ → ℕ → ℕ → ℕ → Bool
+is_wanted held full crowded anew known level count owed now = not held && (not full && (not crowded && (not (goes_on anew (is_covered count owed now) level) && is_paid (anew || known) owed now)))
 
 -- how many of some timers are not old
 abbrev pub young_count : List AskedName → ℕ
@@ -41,6 +41,14 @@ older one other = if nat_lt one.level other.level then other else one
 abbrev pub oldest : List AskedName → Option AskedName
 oldest [] = None
 oldest (asked ∷ later) = Some (fold older asked later)
+
+-- A crowd: 64 timers stand, of which none was backed off. None of them gives way.
+abbrev pub crowds : ℕ → Option AskedName → Bool
+crowds count None = false
+crowds count (Some a) = nat_le MOST_TIMERS count && nat_eq a.level 0
+
+abbrev pub is_crowded : List AskedName → Bool
+is_crowded asked = crowds (length asked) (oldest asked)
 
 -- The oldest timer gives way to that of another name if 64 stand, or it is old, and less is owed than stands asked.
 abbrev pub gives_way : Bool → ℕ → ℕ → Bool

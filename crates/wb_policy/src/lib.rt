@@ -39,4 +39,4 @@ pub use policy::{Policy, sooner};
 pub use questions::Questions;
 pub use reports::{Reports, is_telling, members, page_after, report_bytes};
 pub use turns::Turns;
-pub use wanting::{AskedName, Candidate, giving_way, oldest, young_count};
+pub use wanting::{AskedName, Candidate, giving_way, is_crowded, oldest, young_count};

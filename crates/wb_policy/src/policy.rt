@@ -127,7 +127,8 @@ impl Policy {
     pub fn want(&mut self, candidate: &Candidate, may_start_anew: bool, now: u64) -> bool
         requires { IsMoment now }
         ensures wanted { result ≡ is_wanted candidate.now.is_held candidate.now.is_full
-            may_start_anew candidate.now.is_known candidate.now.level candidate.now.asks self.old.owed now }
+            candidate.now.is_crowded may_start_anew candidate.now.is_known candidate.now.level
+            candidate.now.asks self.old.owed now }
         ensures spent { self.new ≡ (if result then after_wanting now self.old else self.old) }
     {
         if !candidate.is_wanted(&self.credit, may_start_anew, now) {

@@ -1,7 +1,7 @@
 //! Which names are asked for.
 
 ghost use Rattle.std.specs.Prelude.{◌≡◌, ◌≤◌, filter, length};
-ghost use Rattle.wb_policy.specs.Wanting.{gives_way, giving_way, goes_on, is_old, is_wanted, older, oldest, young_count};
+ghost use Rattle.wb_policy.specs.Wanting.{gives_way, giving_way, goes_on, is_crowded, is_old, is_wanted, older, oldest, young_count};
 
 use crate::credit::Credit;
 use crate::limits::OLD_LEVEL;
@@ -15,6 +15,8 @@ pub struct Candidate {
     pub is_held: bool,
     /// Whether the board has no room for it.
     pub is_full: bool,
+    /// Whether 64 timers stand, of which none gives way to one of it.
+    pub is_crowded: bool,
     /// Whether the delay to its source is known.
     pub is_known: bool,
     /// How often its request timer was backed off. None if none stands.
@@ -28,11 +30,12 @@ impl Candidate {
     /// it may start anew, is old, and less is owed than stands asked. A neighbour of what came,
     /// which starts nothing anew, comes last if the delay to its source is not known.
     pub fn is_wanted(&self, credit: &Credit, may_start_anew: bool, now: u64) -> bool
-        ensures { result ≡ is_wanted self.now.is_held self.now.is_full may_start_anew
-            self.now.is_known self.now.level self.now.asks credit.now.owed now }
+        ensures { result ≡ is_wanted self.now.is_held self.now.is_full self.now.is_crowded
+            may_start_anew self.now.is_known self.now.level self.now.asks credit.now.owed now }
     {
         !self.is_held
             && !self.is_full
+            && !self.is_crowded
             && !self.goes_on(may_start_anew, credit.is_covered(self.asks, now))
             && credit.is_left(may_start_anew || self.is_known, now)
     }
@@ -69,6 +72,16 @@ pub fn young_count(asked: &[AskedName]) -> usize
     ensures { result ≡ young_count asked.now }
 {
     asked.iter().filter(|other| !is_old(other.level)).count()
+}
+
+/// Whether 64 timers stand, of which none was backed off. So none of them gives way.
+pub fn is_crowded(asked: &[AskedName]) -> bool
+    ensures { result ≡ is_crowded asked.now }
+{
+    match oldest(asked) {
+        Some(oldest) => asked.len() >= MOST_TIMERS && oldest.level == 0,
+        None => false,
+    }
 }
 
 /// The one that is given up when another is newly asked for: the oldest, if 64 timers stand, or it

@@ -6,7 +6,7 @@ ghost use Rattle.wb_recovery.specs.Events.{timers_of};
 ghost use Rattle.wb_member.specs.Opened.{events};
 ghost use Rattle.wb_keeping.specs.Performing.{Begins, DoesQuietly, IsKeptAt, Keeping, LeavesSome, asked_with, sees, view_of};
 ghost use Rattle.wb_keeping.specs.Views.{holds, is_asked, is_full, is_known, level};
-ghost use Rattle.wb_policy.specs.Wanting.{giving_way};
+ghost use Rattle.wb_policy.specs.Wanting.{giving_way, is_crowded};
 ghost use Rattle.wb_policy.specs.Policy.{after_drawing};
 ghost use Rattle.wb_keeping.specs.Steps.{AreNear, leap_again, leap_in, lent_at, lowest_near, makes_room, performs_all, turn_again, want_in};
 
@@ -15,7 +15,7 @@ use std::alloc::{AllocError, Global};
 use wb_gaps::Hole;
 use wb_names::Name;
 use wb_policy::limits::REACH;
-use wb_policy::{AskedName, Candidate, Turns, giving_way, near_names, young_count};
+use wb_policy::{AskedName, Candidate, Turns, giving_way, is_crowded, near_names, young_count};
 use wb_recovery::{MOST_TIMERS, UNKNOWN_DELAY};
 
 impl KeptMember {
@@ -33,7 +33,8 @@ impl KeptMember {
         ensures left { OnErr result (LeavesSome (want name.now may_start_anew) self.old self.new) }
     {
         let now = self.member.moment();
-        let candidate = self.candidate(name);
+        let crowded = self.is_crowded(alloc)?;
+        let candidate = self.candidate(name, crowded);
         let lent = self.lent_to(name.source());
         let is_covered = self.policy.is_covered(candidate.asks, now);
         if !self.policy.want(&candidate, may_start_anew, now) {
@@ -45,11 +46,12 @@ impl KeptMember {
     }
 
     /// What the policy sees of a name that might be asked for.
-    fn candidate(&self, name: &Name) -> Candidate
+    fn candidate(&self, name: &Name, crowded: bool) -> Candidate
         ensures held { (k : Keeping) → IsKeptAt self.now k →
             result.is_held ≡ holds (view_of k.host) name.now }
         ensures full { (k : Keeping) → IsKeptAt self.now k →
             result.is_full ≡ is_full (view_of k.host) }
+        ensures crowded { result.is_crowded ≡ crowded }
         ensures known { (k : Keeping) → IsKeptAt self.now k →
             result.is_known ≡ is_known (view_of k.host) name.now.source }
         ensures level { (k : Keeping) → IsKeptAt self.now k →
@@ -60,10 +62,20 @@ impl KeptMember {
         Candidate {
             is_held: self.member.holds(name),
             is_full: self.member.is_full(),
+            is_crowded: crowded,
             is_known: self.is_known(name.source()),
             level: self.level(name),
             asks: self.asks(),
         }
+    }
+
+    /// Whether so many timers stand, of which none gives way, that there is no place for another.
+    fn is_crowded(&self, alloc: Global) -> Result<bool, AllocError>
+        ensures { IfOk result (λ crowded. (k : Keeping) → IsKeptAt self.now k →
+            crowded ≡ is_crowded (view_of k.host).asked) }
+    {
+        let asked = self.asked(alloc)?;
+        Ok(is_crowded(&asked))
     }
 
     /// How many request timers stand.

@@ -3,6 +3,7 @@ use Rattle.wb_keeping.specs.Kept.{Line, Doing, Transition, and_then, covers, len
 use Rattle.wb_keeping.specs.Performing.{IsKeptAt, Keeping, KeptValue, sees, view_of}
 use Rattle.wb_policy.specs.Credit.{is_covered}
 use Rattle.wb_policy.specs.Policy.{Policy, after_wanting}
+use Rattle.wb_policy.specs.Wanting.{is_crowded}
 use Rattle.wb_keeping.specs.Views.{holds, is_full, is_known, level}
 use Rattle.wb_keeping.specs.Steps.{lends_for, lent_at, makes_room}
 use Rattle.wb_keeping.proofs.Performed.{at_inside, quiet_by, quiet_then}
@@ -36,8 +37,8 @@ begins c k at =
     let seen = c.candidate-candidate.result in
     let inside = at_inside k c.self.view_is at in
     let now : c.moment-now.result ≡ present k.host = c.moment-now.ensures.moment k.host inside.member in
-    let same = wanted.same_wanted seen.is_held (holds (view_of k.host) n) seen.is_full (is_full (view_of k.host)) anew seen.is_known (is_known (view_of k.host) n.source) seen.level (level (view_of k.host) n) seen.asks (length (view_of k.host).asked) c.self.inside.policy.owed k.policy.owed c.moment-now.result (present k.host)
-    (c.candidate-candidate.ensures.held k at) (c.candidate-candidate.ensures.full k at) (c.candidate-candidate.ensures.known k at) (c.candidate-candidate.ensures.level k at) (c.candidate-candidate.ensures.asks k at)
+    let same = wanted.same_wanted seen.is_held (holds (view_of k.host) n) seen.is_full (is_full (view_of k.host)) seen.is_crowded (is_crowded (view_of k.host).asked) anew seen.is_known (is_known (view_of k.host) n.source) seen.level (level (view_of k.host) n) seen.asks (length (view_of k.host).asked) c.self.inside.policy.owed k.policy.owed c.moment-now.result (present k.host)
+    (c.candidate-candidate.ensures.held k at) (c.candidate-candidate.ensures.full k at) (c.candidate-candidate.ensures.crowded ∙ c.in_ok-crowded.ensures k at) (c.candidate-candidate.ensures.known k at) (c.candidate-candidate.ensures.level k at) (c.candidate-candidate.ensures.asks k at)
     (ap (λ (p : Policy). p.owed) inside.policy) now in
     wanted.is_asked_for n anew (sees k.host) k.policy (sym same ∙ sym c.if-not-want.ensures.wanted)
     ∙ ap (λ (covered : Bool). let d : Doing = record { policy = after_wanting (present k.host) k.policy; lines = room_lines n covered (view_of k.host) ++ lending n.source ((view_of k.host).delay n.source) k.policy.usual (Calls (Ask n)) } in d) (sym (covered_is c k at))
@@ -69,3 +70,6 @@ returns-in_err-ask_by-clause-left c = on_err _ (
     left_by (want n c.args.may_start_anew) (asking here)
     (λ k at. (after_wanting (present k.host) k.policy, c.if-not-want.ensures.spent ∙ spends here k at, begins here k at))
     (ap (λ (v : KeptValue). v.member) c.self.view_is) (left_later (makes_room n c.is_covered-is_covered.result) (lends_for n.source c.lent_to-lent.result (Calls (Ask n))) c.in_ok-make_room.ensures.does c.in_err-ask_by.ensures.left))
+
+pub returns-in_err-crowded-clause-left : goal.returns-in_err-crowded-clause-left
+returns-in_err-crowded-clause-left c = on_err _ (left_none (want c.args.name.now c.args.may_start_anew) (ap (λ (v : KeptValue). v.member) c.self.view_is))
