@@ -8,14 +8,18 @@ import { smoothed, turnsOf } from './inksmoothing.js';
 /** Rounds of adding points, and straight parts of a curve when it is compared with the way. */
 const ROUNDS = 8, PARTS = 8;
 
-/** How far a curve rises over its chord from one point to the next, in distances wanted, and how far it turns, in radians: about. */
-const RISE = 2.6, TURN = 0.68;
+/** How far a curve rises over its chord from one point to the next, in distances wanted, and how far it turns, in radians: about. Where points would be nearer to one
+ * another than so many distances, it turns more. */
+const RISE = 2.6, TURN = { most: 0.5, close: 0.68 }, APART = 6.5;
+
+/** How much of that the curve turns as far as its ends. */
+const END = 0.35;
 
 /** A pressure, of 1, may be off by so much. */
 const PRESSED = 0.14;
 
-/** In distances wanted: how far to both sides of a point its turn is measured. */
-const ARM = 5;
+/** In distances wanted: how far to both sides of a point its turn is measured, and how far a way leads over from what is written to itself. */
+const ARM = 5, LED = 15;
 
 /** Of the points between two the one that is farthest from a line. Null if none is farther than `near`.
  * @type {(way: Point[], from: number, to: number, line: Point[], near: number) => number | null} */
@@ -45,13 +49,13 @@ function spread(way, from, to, near) {
   const parts = [0], bent = (/** @type {number} */ i) => bentAt(way, i, from, to, near);
   for (let i = from + 1, before = bent(from); i <= to; i += 1) {
     const is = bent(i), mean = (before + is) / 2;
-    parts.push(parts[i - from - 1] + Math.max(Math.sqrt(mean / (8 * RISE * near)), mean / TURN) * distance(way[i - 1], way[i]));
+    parts.push(parts[i - from - 1] + Math.max(Math.sqrt(mean / (8 * RISE * near)), Math.min(mean / TURN.most, Math.max(mean / TURN.close, 1 / (APART * near)))) * distance(way[i - 1], way[i]));
     before = is;
   }
   // at its ends a curve is straight, so the points there are nearer to one another
-  const whole = parts[parts.length - 1], many = Math.ceil(whole - 0.35), /** @type {number[]} */ places = [];
+  const whole = parts[parts.length - 1], many = Math.ceil(whole + 0.65 - 2 * END), /** @type {number[]} */ places = [];
   for (let n = 0, i = 1; n < many; n += 1) {
-    const part = (whole * (n + 0.5)) / many;
+    const part = (whole * (n + END)) / (many - 1 + 2 * END);
     while (parts[i] < part) i += 1;
     places.push(from + (parts[i] - part < part - parts[i - 1] ? i : i - 1));
   }
@@ -84,13 +88,23 @@ function pressedOtherwise(way, from, to) {
   return worst;
 }
 
+/** Leads a way over to itself from where it was written so far.
+ * @type {(way: Point[], end: Point, near: number) => void} */
+function ledFrom(way, end, near) {
+  const [{ x, y }] = way, [dx, dy] = [end.x - x, end.y - y];
+  for (let i = 0, far = 0; i < way.length && far < LED * near; far += i + 1 < way.length ? distance(way[i], way[i + 1]) : 0, i += 1) {
+    const part = (1 - far / (LED * near)) ** 2;
+    way[i] = { ...way[i], x: way[i].x + part * dx, y: way[i].y + part * dy };
+  }
+}
+
 /** So few points of a hand's way that the curve through them stays this near to all, in whole units of the page.
  * @template {Point} P
  * @param {P[]} hand @param {number} near @param {Point[]} [before] what of the way is written already, up to the first point @returns {P[]} */
 export function fitted(hand, near, before = []) {
   if (hand.length < 3) return hand.map((point) => settled(point));
   const whole = [...before, ...hand], turns = turnsOf(whole, near), way = /** @type {P[]} */ (smoothed(whole, near, turns).slice(before.length));
-  if (before.length) way[0] = hand[0];
+  if (before.length) ledFrom(way, hand[0], near);
   const corners = new Set([0, ...turns.map((i) => i - before.length).filter((i) => i > 0)]), ends = [...corners];
   const kept = new Set([...ends, ...ends.slice(1).flatMap((to, k) => spread(way, ends[k], to, near))]);
   const places = () => [...kept].sort((a, b) => a - b);

@@ -3,12 +3,21 @@ import { cosine, distance } from './inkcurves.js';
 
 /** @typedef {import('./ink.js').Point} Point */
 
-/** In distances that a way may be off: how far to both sides of a point its turn is measured; how far the points about it may lie off the parabola on
- * which it is put, in the mean; and how far it goes at most. */
-const ARM = 14, TREMBLING = 1.35, MOST = 1.8;
+/** In distances that a way may be off: how far to both sides of a point its turn is measured. */
+const ARM = 14;
 
-/** The points on each side of it that count for that, at least and at most, and how many times as many are tried next. */
-const BESIDE = { least: 2, most: 32, times: 1.5 };
+/** How far a way may be off the points that a screen tells, in the mean of those about a point: as far as they tremble, from the least to the most; and one of them. How many to
+ * each side of a point count. */
+const TREMBLING = { least: 0.8, most: 1.4 }, MOST = 2.2, BESIDE = 8;
+
+/** Points that tremble by one in the mean, each for itself, have third differences of about so much. */
+const THIRD = 3.2;
+
+/** The power of ten of how much a change of bend costs at least, and by how much it may be more; and how often the half of that is tried. */
+const LEAST = -3, MORE = 12, HALVES = 5;
+
+/** How much a point weighs through which the way goes whatever it costs. */
+const HELD = 1e4;
 
 /** The cosines of the turn of a corner, from arm to arm and from the halves of them: a curve turns by less near to its middle. */
 const CORNER = 0.2588, HALF = 0.5;
@@ -47,58 +56,72 @@ export function turnsOf(way, near) {
   return [...way.keys()].filter((i) => i === 0 || i === way.length - 1 || (sharp[i] < 1 && isSharpest(i)));
 }
 
-/** Sums over points about one, from it on: of powers of how far along they are, and of how far across and down, times these powers; and of the squares.
- * @type {(way: Point[], at: number[], i: number, from: number, to: number) => { powers: number[], across: number[], down: number[], squares: number }} */
-function sumsOf(way, at, i, from, to) {
-  const powers = [0, 0, 0, 0, 0], across = [0, 0, 0], down = [0, 0, 0], reach = Math.max(at[to] - at[i], at[i] - at[from]) || 1;
-  let squares = 0;
-  for (let k = from; k <= to; k += 1) {
-    const t = (at[k] - at[i]) / reach, x = way[k].x - way[i].x, y = way[k].y - way[i].y;
-    squares += x * x + y * y;
-    for (let n = 0, power = 1; n < 5; n += 1, power *= t) {
-      powers[n] += power;
-      if (n < 3) [across[n], down[n]] = [across[n] + power * x, down[n] + power * y];
-    }
-  }
-  return { powers, across, down, squares };
+/** How much the bend of a way changes at each of its points but three, as parts of four places that follow one another.
+ * @type {(at: number[]) => number[][]} */
+const bendsOf = (at) => at.slice(3).map((_, i) => {
+  const four = at.slice(i, i + 4), share = 6 * Math.sqrt((four[3] - four[0]) / 3);
+  return four.map((own, k) => four.reduce((part, other, n) => (n === k ? part : part / (own - other)), share));
+});
+
+/** The matrix for a way whose points stay near to those of the screen, each as far as it weighs, and whose bend costs so much where it changes: what stands right of its diagonal,
+ * in the parts of Cholesky without roots.
+ * @type {(weights: number[], bends: number[][], cost: number) => number[][]} */
+function parted(weights, bends, cost) {
+  const rows = weights.map((weight) => [weight, 0, 0, 0]);
+  bends.forEach((bend, i) => bend.forEach((part, k) => bend.slice(k).forEach((other, n) => { rows[i + k][n] += cost * part * other; })));
+  rows.forEach((row, i) => rows.slice(i + 1, i + 4).forEach((below, k) => row.slice(k + 1).forEach((part, n) => { below[n] -= (row[k + 1] / row[0]) * part; })));
+  return rows;
 }
 
-/** Where a point lies on the parabola that is nearest to those about it, and how far these are off it, in the mean.
- * @type {(way: Point[], at: number[], i: number, from: number, to: number) => { x: number, y: number, off: number }} */
-function levelled(way, at, i, from, to) {
-  const { powers: [a, b, c, d, e], across, down, squares } = sumsOf(way, at, i, from, to);
-  const rows = [[c * e - d * d, c * d - b * e, b * d - c * c], [c * d - b * e, a * e - c * c, b * c - a * d], [b * d - c * c, b * c - a * d, a * c - b * b]];
-  const whole = a * rows[0][0] + b * rows[0][1] + c * rows[0][2];
-  if (!(whole > 1e-9)) return { x: way[i].x, y: way[i].y, off: 0 };
-  const solved = (/** @type {number[]} */ sides) => rows.map((row) => row.reduce((sum, part, n) => sum + part * sides[n], 0) / whole), [x, y] = [solved(across), solved(down)];
-  const left = squares - x.reduce((sum, part, n) => sum + part * across[n] + y[n] * down[n], 0);
-  return { x: way[i].x + x[0], y: way[i].y + y[0], off: Math.sqrt(Math.max(0, left) / (to - from + 1)) };
+/** Where the points lie by one axis.
+ * @type {(rows: number[][], sides: number[]) => number[]} */
+function solved(rows, sides) {
+  const found = [...sides];
+  rows.forEach((row, i) => { for (let k = 1; k < 4 && i + k < found.length; k += 1) found[i + k] -= (row[k] / row[0]) * found[i]; });
+  for (let i = found.length - 1; i >= 0; i -= 1) {
+    for (let k = 1; k < 4 && i + k < found.length; k += 1) found[i] -= rows[i][k] * found[i + k];
+    found[i] /= rows[i][0];
+  }
+  return found;
 }
 
-/** A point of a way between two corners as the points about it have it: of all that lie about on one parabola.
- * @type {(way: Point[], at: number[], i: number, first: number, last: number, near: number) => Point} */
-function settledAt(way, at, i, first, last, near) {
-  let best = { x: way[i].x, y: way[i].y };
-  for (let many = BESIDE.least; many <= BESIDE.most; many *= BESIDE.times) {
-    const from = Math.max(first, i - Math.round(many)), to = Math.min(last, i + Math.round(many));
-    const next = to - from > 2 ? levelled(way, at, i, from, to) : { ...best, off: 0 };
-    if (next.off > TREMBLING * near) break;
-    best = next;
-    if (from === first && to === last) break;
+/** How far the points of a way tremble, in the mean: a hand goes on from point to point without haste, and what a screen is off changes at each.
+ * @type {(way: Point[], near: number) => number} */
+function tremblingOf(way, near) {
+  const third = (/** @type {'x' | 'y'} */ axis, /** @type {number} */ i) => way[i + 3][axis] - 3 * way[i + 2][axis] + 3 * way[i + 1][axis] - way[i][axis];
+  const all = way.slice(3).map((_, i) => Math.hypot(third('x', i), third('y', i))).sort((a, b) => a - b);
+  return Math.min(TREMBLING.most * near, Math.max(TREMBLING.least * near, all[all.length >> 1] / THIRD));
+}
+
+/** Whether a way is nowhere farther from what a screen tells than that trembles.
+ * @type {(off: number[], near: number, trembling: number) => boolean} */
+function isNear(off, near, trembling) {
+  let sum = 0;
+  return off.every((each, i) => {
+    // of the points about one the mean, of those from the first on
+    sum += each - (i > 2 * BESIDE ? off[i - 2 * BESIDE - 1] : 0);
+    return each < (MOST * near) ** 2 && (i < 2 * BESIDE && i < off.length - 1 || sum < Math.min(i + 1, 2 * BESIDE + 1) * trembling ** 2);
+  });
+}
+
+/** A way between two corners whose bend changes as little as it may.
+ * @template {Point} P @param {P[]} way @param {number[]} weights how much each point weighs @param {number} near @returns {P[]} */
+function levelled(way, weights, near) {
+  if (way.length < 5) return way;
+  let far = 0;
+  const at = way.map((point, i) => (far += i ? Math.sqrt(Math.max(near / 10, distance(way[i - 1], point))) : 0)), bends = bendsOf(at), each = (far / (way.length - 1)) ** 5;
+  const trembling = tremblingOf(way, near), [{ x: x0, y: y0 }] = way, sides = [way.map(({ x }) => x - x0), way.map(({ y }) => y - y0)];
+  let [found, cost] = [way, LEAST];
+  for (let more = MORE / 2, n = 0; n < HALVES; n += 1, more /= 2) {
+    const rows = parted(weights, bends, each * 10 ** (cost + more)), [x, y] = sides.map((own) => solved(rows, own.map((side, i) => weights[i] * side)));
+    if (isNear(way.map((_, i) => (x[i] - sides[0][i]) ** 2 + (y[i] - sides[1][i]) ** 2), near, trembling)) [found, cost] = [way.map((point, i) => ({ ...point, x: x0 + x[i], y: y0 + y[i] })), cost + more];
   }
-  const [dx, dy] = [best.x - way[i].x, best.y - way[i].y], share = Math.min(1, (i > 0 && i < way.length - 1 ? MOST * near : near) / (Math.hypot(dx, dy) || 1));
-  return { x: way[i].x + dx * share, y: way[i].y + dy * share };
+  return found;
 }
 
 /** A way without its trembling: its corners stay where they are.
- * @type {(way: Point[], near: number, corners: number[]) => Point[]} */
+ * @template {Point} P @param {P[]} way @param {number} near @param {number[]} corners @returns {P[]} */
 export function smoothed(way, near, corners) {
-  let [far, part] = [0, 0];
-  const at = way.map((point, i) => (far += i ? distance(way[i - 1], point) : 0));
-  return way.map((point, i) => {
-    if (corners[part + 1] < i) part += 1;
-    const [first, last] = [corners[part], corners[part + 1]];
-    const isTurn = (i === first || i === last) && i > 0 && i < way.length - 1;
-    return isTurn ? point : { ...point, ...settledAt(way, at, i, first, last, near) };
-  });
+  const weights = way.map((_, i) => (i > 0 && i < way.length - 1 && corners.includes(i) ? HELD : 1));
+  return corners.slice(1).flatMap((to, n) => levelled(way.slice(corners[n], to + 1), weights.slice(corners[n], to + 1), near).slice(n ? 1 : 0));
 }

@@ -14,7 +14,7 @@ const { Pen } = await import('../../live/ui/pen.js');
 /** Units of a point of the screen at 100 %, points of it that a piece is long, and degrees that are a kink. */
 const UNITS = 6.4, PIECE = 3, KINK = 6;
 
-const RATES = [60, 120], SEEDS = [1, 2];
+const RATES = [60, 120], SEEDS = [1, 2], MORE_SEEDS = [1, 2];
 
 /** How a screen tells a point: on the nearest whole one, as browsers tell a mouse; on the one before, as WebKit does; or between them, as of a finger. */
 const ROUNDS = { nearest: Math.round, before: Math.floor, between: (n) => n };
@@ -58,6 +58,18 @@ const CLOSE = { 'a small o': [ring(300, 300, 14), 150],
   loops: [measured((t) => ({ x: 200 + 300 * t + 26 * Math.cos(12 * Math.PI * t), y: 400 + 36 * Math.sin(12 * Math.PI * t) })), 350] };
 const CLOSELY = 15;
 
+/** Letters of hands, by how high they are in points of the screen: 3 to 10 millimetres. A hand writes five of their heights a second. */
+const MILLIMETRE = 96 / 25.4, LETTERS = {
+  circle: (high) => ring(300, 300, high / 2),
+  o: (high) => measured((t) => ({ x: 300 + 0.42 * high * Math.cos(2 * Math.PI * t), y: 300 + 0.5 * high * Math.sin(2 * Math.PI * t) })),
+  c: (high) => measured((t) => ({ x: 300 + 0.5 * high * Math.cos(0.7 + 5 * t), y: 300 - 0.5 * high * Math.sin(0.7 + 5 * t) })),
+};
+
+/** For letters so high the kink in the middle of all tellings, and in the worst one: half a point aside turns a piece of three points by 10 degrees. */
+const SMALL = [[3, 14, 32], [5, 9, 12], [7, KINK, 11], [10, KINK, 8]];
+
+const letter = (name, millimetres) => [LETTERS[name](millimetres * MILLIMETRE), 5 * millimetres * MILLIMETRE];
+
 const CORNERS = { 'a square': [[[200, 200], [320, 200], [320, 320], [200, 320], [200, 200]], 300], 'a V': [[[200, 200], [260, 330], [320, 200]], 400] };
 
 const chanceOf = (seed) => () => {
@@ -65,12 +77,13 @@ const chanceOf = (seed) => () => {
   return seed / 2 ** 32;
 };
 
-/** What a screen tells of a hand, in points of it, with the milliseconds. */
-function told([{ long, at }, speed], rate, rounds, seed) {
-  const chance = chanceOf(seed), many = Math.max(3, Math.ceil((long / speed) * rate)), off = () => chance() - 0.5;
+/** What a screen tells of a hand, in points of it, with the milliseconds: of one that trembles by up to half a point, or only by what the screen is off. */
+function told([{ long, at }, speed], rate, rounds, seed, trembles = true) {
+  const chance = chanceOf(seed), many = Math.max(3, Math.ceil((long / speed) * rate)), off = () => (trembles || rounds === ROUNDS.between ? chance() - 0.5 : 0);
+  const [aside, down] = trembles ? [0, 0] : [chance(), chance()];
   return Array.from({ length: many + 1 }, (_, i) => {
     const { x, y } = at((long * i) / many);
-    return { x: rounds(x + off()), y: rounds(y + off()), time: (1000 * i) / rate };
+    return { x: rounds(x + aside + off()) - aside, y: rounds(y + down + off()) - down, time: (1000 * i) / rate };
   });
 }
 
@@ -137,19 +150,22 @@ function kinkOf(line, [{ long, at }]) {
   return worst;
 }
 
-/** The worst kink of a hand in all ways of telling it, and the texts that it takes at most. */
+/** The worst kinks of a hand in all ways of telling it, from the least on, and the texts that it takes at most. */
+function kinksOf(hand, kind = 's', shown = lineOf, seeds = SEEDS, trembles = true) {
+  const all = RATES.flatMap((rate) => Object.values(ROUNDS).flatMap((rounds) => seeds.map((seed) => penned(told(hand, rate, rounds, seed, trembles), kind))));
+  all.forEach(({ items }) => check('it is one item', items.length, 1));
+  return { kinks: all.map(({ items }) => kinkOf(shown(items[0]), hand)).sort((a, b) => a - b), most: Math.max(...all.map(({ texts }) => texts)) };
+}
+
 function worstOf(hand, kind = 's', shown = lineOf) {
-  let [worst, most] = [0, 0];
-  for (const rate of RATES) {
-    for (const rounds of Object.values(ROUNDS)) {
-      for (const seed of SEEDS) {
-        const { items, texts } = penned(told(hand, rate, rounds, seed), kind);
-        check('it is one item', items.length, 1);
-        [worst, most] = [Math.max(worst, kinkOf(shown(items[0]), hand)), Math.max(most, texts)];
-      }
-    }
-  }
-  return { worst, most };
+  const { kinks, most } = kinksOf(hand, kind, shown);
+  return { worst: kinks[kinks.length - 1], most };
+}
+
+/** Of a small letter the kink in the middle, and the worst one. */
+function smallOf(name, millimetres, kind = 's', shown = lineOf) {
+  const { kinks } = kinksOf(letter(name, millimetres), kind, shown, MORE_SEEDS, false);
+  return [kinks[kinks.length >> 1], kinks[kinks.length - 1]];
 }
 
 const isBelow = (name, { worst }, most) => check(`${name}: ${worst.toFixed(1)} degrees`, worst < most, true);
@@ -167,6 +183,9 @@ if (process.argv[2] === 'rows') {
     const even = worstOf(hand), lively = worstOf(hand, 'v', sideOf);
     console.log(`${name}: ${even.worst.toFixed(1)} degrees, ${even.most} texts; by speed ${lively.worst.toFixed(1)}, ${lively.most}`);
   }
+  for (const name of Object.keys(LETTERS)) {
+    for (const high of [3, 5, 7, 10]) console.log(`${name} of ${high} mm: ${smallOf(name, high).map((each) => each.toFixed(1))} degrees; by speed ${smallOf(name, high, 'v', sideOf).map((each) => each.toFixed(1))}`);
+  }
 } else {
   test('no kink that the hand had not', () => {
     for (const [name, hand] of Object.entries(HANDS)) isBelow(name, worstOf(hand), KINK);
@@ -174,6 +193,14 @@ if (process.argv[2] === 'rows') {
   });
   test('nor has the outline of a stroke that is thinner where it is fast', () => {
     for (const name of ['a circle', 'an S', 'a fast flick']) isBelow(name, worstOf(HANDS[name], 'v', sideOf), KINK);
+  });
+  test('nor has a small letter, as far as half a point of the screen allows', () => {
+    for (const [high, middle, most] of SMALL) {
+      for (const name of Object.keys(LETTERS)) {
+        const [is, worst] = smallOf(name, high);
+        check(`${name} of ${high} mm: ${is.toFixed(1)} and ${worst.toFixed(1)} degrees`, is < middle && worst < most, true);
+      }
+    }
   });
   test('corners that the hand made stay', () => {
     for (const [name, [corners, speed]] of Object.entries(CORNERS)) {
