@@ -154,7 +154,7 @@ class Soak:
             self.memory.append([resident(member.process.pid) for member in [*self.members, self.served]])
 
     def note_apart(self) -> None:
-        """Takes note of each member of which people are told that its page is another."""
+        """Takes note of each member whose page people see as another."""
         for index in range(MEMBERS + GUESTS):
             others = self.drawer(index).states.get("members", {"members": []})["members"]
             self.apart += [(index, other) for other in others if other["holds"] == ANOTHER]
