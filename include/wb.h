@@ -151,7 +151,8 @@ enum {
     WB_DROP_AHEAD = 9,
     WB_DROP_FULL = 10,
     WB_DROP_SHARE = 11,
-    WB_DROP_PAGES = 12
+    WB_DROP_PAGES = 12,
+    WB_DROP_HOLES = 13
 };
 
 /* What a judged host warns people of: the words of the line `warn`. */

@@ -42,7 +42,9 @@ export class Key {
     head.writeBigUInt64BE(this.sent, 9);
     const data = Buffer.concat([head, datagram]);
     if (this.kind === TAGGED) return Buffer.concat([data, this.tag(data)]);
-    const nonce = randomBytes(NONCE), cipher = createCipheriv('aes-256-gcm', this.bytes, nonce).setAAD(this.session);
+    let nonce = randomBytes(NONCE);
+    while (nonce[0] === TAGGED) nonce = randomBytes(NONCE); // what begins so is tagged
+    const cipher = createCipheriv('aes-256-gcm', this.bytes, nonce).setAAD(this.session);
     return Buffer.concat([nonce, cipher.update(data), cipher.final(), cipher.getAuthTag()]);
   }
 

@@ -1,7 +1,7 @@
 """The drawops that the host holds, by page. What of them a page shows, the host says (showing.py)."""
 from __future__ import annotations
 
-from typing import Dict, List, Optional, Set
+from typing import Dict, List, Optional, Set, Tuple
 
 from .clock import SECOND
 from .views import Drawop, Name, Page
@@ -115,6 +115,19 @@ class Drawn:
         """How many numbers of a page are missing below the greatest that is held of each source."""
         sheet = self.sheet(page)
         return sum(sheet.tops.values()) - len(sheet.drawops)
+
+    def gaps(self, page: Page, strange: Set[Name]) -> Dict[int, Tuple[int, int]]:
+        """Of each source the greatest number of a page that is none of these names, and how many below it are missing."""
+        sheet = self.sheet(page)
+        gaps = {source: (top, top - sheet.counts[source]) for source, top in sheet.tops.items()}
+        held: Dict[int, List[int]] = {source: [] for source, top in sheet.tops.items() if (source, page, top) in strange}
+        for source, _, seq in sheet.drawops if held else ():
+            if source in held:
+                held[source].append(seq)
+        for source, numbers in held.items():
+            top = max((seq for seq in numbers if (source, page, seq) not in strange), default=0)
+            gaps[source] = top, top - sum(seq <= top for seq in numbers)
+        return gaps
 
     def all(self) -> List[Drawop]:
         return [drawop for sheet in list(self.pages.values()) for drawop in list(sheet.order)]

@@ -9,7 +9,8 @@ import threading
 import time
 from collections import Counter
 from concurrent.futures import TimeoutError as TooLate
-from typing import TYPE_CHECKING, Dict, Iterator, NamedTuple, Optional
+from functools import partial
+from typing import TYPE_CHECKING, Dict, Iterator, NamedTuple, Optional, Tuple
 
 from .carriers.carrier import MOST_BYTES, Origin
 from .carriers.sealed import NONCE, TAG, Seal
@@ -17,7 +18,7 @@ from .carriers.udp import UdpCarrier
 from .clock import SECOND
 from .options import Address
 from .people import Refused
-from .views import Report
+from .views import Page, Report
 
 if TYPE_CHECKING:
     from .member import Member
@@ -42,6 +43,9 @@ PAUSE, MANY = 2.0, 100
 # it asks for each.
 LACKING, FETCH_PAUSE, FETCH_AGAIN = 500, 10 * SECOND, 60 * SECOND
 
+# marks of members that are remembered, for which a stream was tried
+MOST_TRIED = 4_096
+
 # streams that a member gives at a time, and datagrams that are taken in at a time
 MOST_GIVEN = 4
 SOME = 500
@@ -58,6 +62,10 @@ MOST_PIECE = 1 << 20
 
 # bytes of a number that either side draws anew for each stream under a key
 FRESH = 16
+
+
+# of a member that reports, a page and a source the greatest number
+Marks = Dict[Tuple[int, Page, int], int]
 
 
 class Streams(NamedTuple):
@@ -157,24 +165,29 @@ class Joining:
         self.coming_until = 0.0
         self.next_at = 0  # from then on a stream may begin
         self.again_at: Dict[int, int] = {}  # from then on one of that member may
+        self.brought = 0  # how many drawops of the stream were new
+        self.tried: Marks = {}  # what a member reported when a stream of it came that brought little: it has no more of what is below
 
     def consider(self, report: Report, origin: Origin, is_named: bool) -> None:
         """A member has reported from there. A stream of it is taken if the host says so, or if that member holds much that is lacking here: the host
-        counts what lies above the greatest numbers that it holds, and holes below them are lacking too."""
+        counts what lies above the greatest numbers that it holds, and holes below them are lacking too. A hole that it has as well, since a number was
+        left out or forged, brings no second stream."""
         now = self.member.board.moment
         if not is_named and (now < max(self.next_at, self.again_at.get(report.speaker, 0)) or self.lacking(report) < LACKING):
             return
         self.next_at = now + FETCH_PAUSE
         self.again_at = {number: at for number, at in self.again_at.items() if at > now}
         self.again_at[report.speaker] = now + FETCH_AGAIN
-        self.fetch(origin)
+        self.fetch(origin, {(report.speaker, report.page, source): high for source, high in report.noted(self.member.me)})
 
     def lacking(self, report: Report) -> int:
-        """How many numbers of others up to the marks of a report are not held."""
-        return sum(self.member.drawn.lacking(report.page, source, high) for source, high in report.noted(self.member.me))
+        """How many numbers of others up to the marks of a report are not held, and may be had of who reports."""
+        return sum(min(self.member.drawn.lacking(report.page, source, high), max(0, high - self.tried.get((report.speaker, report.page, source), 0)))
+                   for source, high in report.noted(self.member.me))
 
     def took(self, new: int) -> None:
         """So many drawops of a stream were new."""
+        self.brought += new
         if new >= MANY:
             self.coming_until = time.monotonic() + PAUSE
 
@@ -182,21 +195,29 @@ class Joining:
         """Whether a stream brings much."""
         return self.is_busy and time.monotonic() < self.coming_until
 
-    def fetch(self, origin: Origin) -> None:
+    def note(self, marks: Marks) -> None:
+        """A stream has come that was taken for these marks."""
+        if self.brought < LACKING:
+            self.tried.update(marks)
+        while len(self.tried) > MOST_TRIED:
+            del self.tried[next(iter(self.tried))]
+
+    def fetch(self, origin: Origin, marks: Marks) -> None:
         """Takes a stream of the member that speaks from there, if it may be had."""
         streams, address = self.member.streams, origin.address
         if self.is_busy or streams is None or address is None or not streams.udp.is_there(address):
             return
-        self.is_busy = True
-        threading.Thread(target=self.join, args=(streams, origin, address), daemon=True).start()
+        self.is_busy, self.brought = True, 0
+        threading.Thread(target=self.join, args=(streams, origin, address, marks), daemon=True).start()
 
-    def join(self, streams: Streams, origin: Origin, address: Address) -> None:
+    def join(self, streams: Streams, origin: Origin, address: Address, marks: Marks) -> None:
         """Takes in a stream, as fast as the member's thread does."""
         try:
             with streams.udp.stream_to(address, SILENCE) as stream:
                 talk, end = Talk(stream, streams.seal), time.monotonic() + LONGEST
                 talk.ask(end)
                 self.take_all(datagrams_of(talk, end), origin)
+            self.member.inbox.call(partial(self.note, marks))
         except BROKEN:
             pass  # what is missing is asked for
         finally:

@@ -15,13 +15,10 @@ from .heard import Heard, Other
 from .inbox import Arrival
 from .joining import Joining
 from .tails import Tails
-from .views import SESSION, Datagram, Drawop, Name, Report, name_of
+from .views import REQUEST, SESSION, Datagram, Drawop, Name, Report, asked_in, name_of
 
 if TYPE_CHECKING:
     from .member import Member
-
-# how a request begins
-REQUEST = "57420103"
 
 # A member that was not heard for so long is not shown any more, and for some intervals between two reports, since of many members each
 # speaks more seldom than that; and an interval at most.
@@ -32,6 +29,7 @@ WHYS = {
     "own": "our own number", "speaks": "speaks for another", "crowd": "too many new members", "mark": "a mark of ours",
     "stranger": "a stranger asks for what is not held", "flood": "too many requests or questions", "again": "it would hush us",
     "ahead": "ahead of the clock", "full": "the board is full", "share": "over a stranger's share", "pages": "strangers are on too many pages, or too many numbers",
+    "holes": "a stranger left numbers out",
 }
 
 # what a host warns of, for people; that another has our number is shown as long as it is so
@@ -155,7 +153,9 @@ class Judging:
         """What goes out for a datagram of the host, if anything: no request while a stream brings what it asks for."""
         if digits.startswith(REQUEST):
             self.tails.asked(self.member.board.now())
-            return None if self.joining.is_coming() else digits
+            if self.joining.is_coming():
+                return None
+            self.member.telling.reported.ask(asked_in(digits))
         if digits.startswith(SESSION):
             self.reported(len(digits) // 2)
         return digits

@@ -37,6 +37,10 @@ MOST_MEMBERS = 500
 # names that only marks reported; the oldest go first
 MOST_REPORTED = 512
 
+# A page is asked for once more if a request for something of it goes out after another report of a member. What was asked for first so often ago, and of
+# whose source nothing has come since, nobody here has.
+IN_VAIN = 16
+
 # for so long it is said that a page has caught up
 CAUGHT_UP = 60 * SECOND
 
@@ -54,10 +58,13 @@ def notice_of(member: Member) -> str:
 
 
 class Reported:
-    """Names that members reported and that are not held: what is missing beside the gaps."""
+    """Names that members reported and that are not held: what is missing beside the gaps. And what of all that was asked for in vain."""
 
     def __init__(self) -> None:
         self.names: Dict[Name, None] = {}
+        self.reports = 0  # of members
+        self.asked: Dict[Page, Tuple[int, int]] = {}  # how often a page was asked for, and how many reports had come at the last
+        self.since: Dict[Tuple[int, Page], int] = {}  # how often it had been when something of a source was asked for of which nothing came since
 
     def tell(self, name: Name) -> None:
         self.names.pop(name, None)
@@ -65,9 +72,25 @@ class Reported:
         if len(self.names) > MOST_REPORTED:
             del self.names[next(iter(self.names))]
 
-    def come(self, name: Name) -> None:
-        """It is held from now on."""
+    def come(self, name: Name, is_strange: bool = False) -> None:
+        """It is held from now on. What no member gave answers no request."""
         self.names.pop(name, None)
+        if not is_strange:
+            self.since.pop(name[:2], None)
+
+    def ask(self, name: Name) -> None:
+        """It is asked for. Between two reports one request counts: where nobody is heard, nobody could answer."""
+        often, reports = self.asked.pop(name[1], (0, -1))
+        self.asked[name[1]] = often + (reports < self.reports), self.reports
+        self.since.setdefault(name[:2], often)
+        if len(self.asked) > MOST_REPORTED:
+            del self.asked[next(iter(self.asked))]
+        if len(self.since) > MOST_REPORTED:
+            del self.since[next(iter(self.since))]
+
+    def is_in_vain(self, source: int, page: Page) -> bool:
+        since = self.since.get((source, page))
+        return since is not None and self.asked.get(page, (0, 0))[0] - since >= IN_VAIN
 
     def pages(self) -> List[Page]:
         return [page for _, page, _ in self.names]
@@ -75,6 +98,13 @@ class Reported:
     def missing(self, page: Page, drawn: Drawn) -> int:
         """How many names of a page are missing: those in its gaps, and those above."""
         return drawn.missing(page) + sum(1 for source, on, seq in self.names if on == page and seq > drawn.top(page, source))
+
+    def awaited(self, page: Page, drawn: Drawn, strange: Set[Name]) -> int:
+        """How many of these people wait for. A stranger may have taken any number: none is below what no member gave. And none was asked for in vain."""
+        gaps = drawn.gaps(page, strange)
+        above = [name for name in self.names if name[1] == page and name[2] > gaps.get(name[0], (0, 0))[0] and not drawn.holds(name)]
+        missing = [(source, many) for source, (_, many) in gaps.items()] + [(source, 1) for source, _, _ in above]
+        return sum(many for source, many in missing if not self.is_in_vain(source, page))
 
 
 class Telling:
@@ -199,6 +229,7 @@ class Telling:
 
     def notice(self, report: Report) -> None:
         """What a member reports that is not held, by a limited number of its marks."""
+        self.reported.reports += 1
         for source, high in report.noted(self.member.me):
             if not self.member.drawn.holds((source, report.page, high)):
                 self.reported.tell((source, report.page, high))
@@ -207,7 +238,7 @@ class Telling:
         """What became of a drawop."""
         alarms, source = self.member.alarms, name[0]
         if fate == "new":
-            self.reported.come(name)
+            self.reported.come(name, name in self.member.board.strange)
         elif fate == "clash":
             alarms.warn("two members draw with number %d: what they drew differs from member to member" % source)
         elif fate == "left":
@@ -268,7 +299,7 @@ class Telling:
 
     def tell_health(self) -> None:
         member, page = self.member, self.member.page
-        missing = self.reported.missing(page, member.drawn)
+        missing = self.reported.awaited(page, member.drawn, member.board.strange)
         now = member.board.clock.now()
         if missing:
             self.missing = {page, *self.missing} if len(self.missing) < MOST_REPORTED else {page}

@@ -26,6 +26,9 @@ MARKS = 64
 # how a drawop begins in hexadecimal, in either version, and where its source, the two numbers of its page and its own number stand
 DRAWOPS, NAMED = ("57420101", "57420201"), range(16, 48, 8)
 
+# how a request begins, and where it has the same
+REQUEST, ASKED = "57420103", range(24, 56, 8)
+
 # and a session message
 SESSION = "57420102"
 
@@ -125,6 +128,12 @@ def name_of(digits: str) -> Optional[Name]:
     if not digits.startswith(DRAWOPS) or len(digits) < NAMED.stop:
         return None
     source, creator, number, seq = (int(digits[at:at + 8], 16) for at in NAMED)
+    return source, (creator, number), seq
+
+
+def asked_in(digits: str) -> Name:
+    """The name that a request in hexadecimal asks for."""
+    source, creator, number, seq = (int(digits[at:at + 8], 16) for at in ASKED)
     return source, (creator, number), seq
 
 

@@ -4,10 +4,11 @@ datagram. So what somebody without the key sends once more is known again, or is
 
 A key closes it in one of two ways. By AES-256-GCM, with the session's name as what goes with it: a nonce of 12 random bytes, and then the ciphertext with
 its tag, so nobody else reads it. Or by a tag alone, the first 16 bytes of an HMAC-SHA-256 behind it, which takes nothing but the standard library: all
-can read it, and nobody else writes it. A key says which it makes, and whoever has it takes both."""
+can read it, and nobody else writes it. A key says which it makes, and whoever has it takes both; the first byte tells which it is."""
 from __future__ import annotations
 
 import dataclasses
+import hashlib
 import hmac
 import itertools
 import os
@@ -20,6 +21,9 @@ from .mqtt import GONE
 
 NONCE = 12
 TAG = 16
+
+# bytes of a block of SHA-256
+BLOCK = 64
 
 # the module of AES-256-GCM, and the package that has it
 CIPHER, PACKAGE = "cryptography.hazmat.primitives.ciphers.aead", "python3-cryptography"
@@ -50,6 +54,17 @@ def below(tag: bytes) -> bytes:
     return bytes([tag[0] & 127]) + tag[1:]
 
 
+def sent_by(envelope: bytes) -> Tuple[bytes, int]:
+    """The sender that an envelope names, and its counter."""
+    return below(envelope[1:1 + SENDER]), int.from_bytes(envelope[1 + SENDER:HEAD], "big")
+
+
+def new_nonce() -> bytes:
+    """One that does not begin as a tagged envelope does."""
+    nonce = os.urandom(NONCE)
+    return new_nonce() if nonce[0] == TAGGED_KIND else nonce
+
+
 def new_sender() -> bytes:
     """The tag of a sender."""
     return below(os.urandom(SENDER))
@@ -62,6 +77,11 @@ def cipher_of(key: str) -> Any:
     return module_of(CIPHER, PACKAGE, "--key").AESGCM(key_bytes(key))
 
 
+def hash_of(key: bytes, pad: int, begun: bytes = b"") -> Any:
+    """One of the two hashes of an HMAC-SHA-256, after the key and what all that is tagged begins with: a copy of it costs less than to begin anew."""
+    return hashlib.sha256(bytes(byte ^ pad for byte in key.ljust(BLOCK, b"\0")) + begun)
+
+
 class Seal:
     """The key of a session by its text, the session's name, and who sends by it: this start."""
 
@@ -70,14 +90,14 @@ class Seal:
         self.counter = itertools.count(1)
         self.is_tagging = is_tagging(key)
         self.cipher = cipher_of(key)
-        self.key = key_bytes(key)
         self.session = session.encode()
+        self.inner, self.outer = hash_of(key_bytes(key), 0x36, self.session), hash_of(key_bytes(key), 0x5C)
 
     def close(self, data: bytes, more: bytes = b"") -> bytes:
         """What is closed, and what else goes with it that the other side knows."""
         if self.is_tagging:
             return data + self.tag(data, more)
-        nonce = os.urandom(NONCE)
+        nonce = new_nonce()
         sealed: bytes = self.cipher.encrypt(nonce, data, self.session + more)
         return nonce + sealed
 
@@ -88,7 +108,11 @@ class Seal:
 
     def tag(self, data: bytes, more: bytes) -> bytes:
         """A session's name has no zero, and of what else goes with it the length stands before it: so no two are alike."""
-        return hmac.digest(self.key, self.session + bytes([0, len(more)]) + more + data, "sha256")[:TAG]
+        inner, outer = self.inner.copy(), self.outer.copy()
+        inner.update(bytes([0, len(more)]) + more + data)
+        outer.update(inner.digest())
+        tag: bytes = outer.digest()[:TAG]
+        return tag
 
     def untagged(self, closed: bytes, more: bytes = b"") -> Optional[bytes]:
         data, tag = closed[:-TAG], closed[-TAG:]
@@ -109,12 +133,11 @@ class Seal:
 
     def read(self, closed: bytes) -> Optional[Letter]:
         """None too if a member of another version closed it."""
-        opened = self.untagged(closed) if closed[:1] == bytes([TAGGED_KIND]) else None
-        kind = SEALED_KIND if opened is None else TAGGED_KIND
-        opened = self.unsealed(closed) if opened is None else opened
+        kind = TAGGED_KIND if closed[:1] == bytes([TAGGED_KIND]) else SEALED_KIND
+        opened = self.untagged(closed) if kind == TAGGED_KIND else self.unsealed(closed)
         if opened is None or len(opened) < HEAD or opened[0] != kind:
             return None
-        return Letter(below(opened[1:1 + SENDER]), int.from_bytes(opened[1 + SENDER:HEAD], "big"), opened[HEAD:])
+        return Letter(*sent_by(opened), opened[HEAD:])
 
     def send(self, data: bytes) -> bytes:
         """The next datagram of this sender."""
@@ -131,6 +154,12 @@ class Counters:
     def __init__(self) -> None:
         # the greatest counter, and a bit for it and each of those below it; the sender that was heard last at the end
         self.came: Dict[bytes, Tuple[int, int]] = {}
+
+    def has_come(self, sender: bytes, counter: int) -> bool:
+        """Whether a datagram came, or is far behind, by what is remembered: nothing is by that."""
+        greatest, bits = self.came.get(sender, (counter, 0))
+        behind = greatest - counter
+        return behind > BEHIND or behind >= 0 and bool(bits >> behind & 1)
 
     def is_new(self, sender: bytes, counter: int) -> bool:
         """Whether a datagram comes for the first time. One that is far behind is taken for a repeated one."""
@@ -159,7 +188,12 @@ class Sealed(Over):
         return self.under.where + (", tagged by a key" if self.seal.is_tagging else ", sealed by a key")
 
     def arrive(self, data: bytes, origin: Origin) -> None:
-        letter = None if data[:4] in PLAIN or len(data) < HEAD + TAG else self.seal.read(data)
+        """What costs least is looked at first. Of a tagged datagram the sender and the counter stand in the open: if it came, its tag tells no more."""
+        if data[:4] in PLAIN or len(data) < HEAD + TAG:
+            return self.inbox.miss()
+        if data[0] == TAGGED_KIND and self.counters.has_come(*sent_by(data)):
+            return
+        letter = self.seal.read(data)
         if letter is None:
             self.inbox.miss()
         elif letter.sender != self.seal.sender and self.counters.is_new(letter.sender, letter.counter):

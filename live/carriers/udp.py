@@ -20,6 +20,9 @@ WAITING_BYTES = 1 << 20
 # datagrams of ours that are told apart when a group brings them back
 MOST_RECENT = 64
 
+# origins that are made once, since most datagrams come from few places
+MOST_ORIGINS = 1_024
+
 # hosts of a group that are remembered, since a stream is given to those alone that were heard; of more, the one heard least lately goes
 MOST_HOSTS = 1_024
 
@@ -40,6 +43,7 @@ class UdpCarrier:
         self.socket = bound
         self.sender = sender
         self.targets = targets
+        self.origins: Dict[Address, Origin] = {}
         self.is_open = True
 
     def begin(self, inbox: Taker) -> None:
@@ -55,7 +59,13 @@ class UdpCarrier:
                     time.sleep(0.05)
                 continue
             if self.takes(data, address):
-                inbox.arrive(data, Origin("%s:%d" % address, address=address))
+                inbox.arrive(data, self.origins.get(address) or self.origin_of(address))
+
+    def origin_of(self, address: Address) -> Origin:
+        if len(self.origins) >= MOST_ORIGINS:
+            self.origins.clear()
+        self.origins[address] = origin = Origin("%s:%d" % address, address=address)
+        return origin
 
     def takes(self, data: bytes, address: Address) -> bool:
         """Whether a datagram from there is for us."""

@@ -1,6 +1,6 @@
 /** Few points for the way of a hand, through which the curve of a stroke stays near to it (docs/INK.md, "Writing"). */
 import { along, bend, cosine, distance, isCorner, off } from './inkcurves.js';
-import { settled } from './inksigns.js';
+import { settled, within } from './inksigns.js';
 import { smoothed, turnsOf } from './inksmoothing.js';
 
 /** @typedef {import('./ink.js').Point} Point */
@@ -9,7 +9,7 @@ import { smoothed, turnsOf } from './inksmoothing.js';
 const ROUNDS = 8, PARTS = 8;
 
 /** How far a curve rises over its chord from one point to the next, in distances wanted, and how far it turns, in radians: about. */
-const RISE = 2.6, TURN = 0.68;
+const RISE = 2.6, TURN = 0.64;
 
 /** A pressure, of 1, may be off by so much. */
 const PRESSED = 0.14;
@@ -84,12 +84,12 @@ function pressedOtherwise(way, from, to) {
   return worst;
 }
 
-/** So few points of a hand's way that the curve through them stays this near to all, in whole units of the page.
+/** So few points of a hand's way that the curve through them stays this near to all.
  * @template {Point} P
  * @param {P[]} hand @param {number} near @param {Point[]} [before] what of the way is written already, up to the first point @returns {P[]} */
 export function fitted(hand, near, before = []) {
   if (hand.length < 3) return hand.map((point) => settled(point));
-  const whole = [...before, ...hand], turns = turnsOf(whole, near), way = /** @type {P[]} */ (smoothed(whole, near, turns).slice(before.length));
+  const whole = [...before, ...hand], turns = turnsOf(whole, near), way = /** @type {P[]} */ (smoothed(whole, near, turns, before.length ? [before.length] : []).slice(before.length));
   if (before.length) way[0] = hand[0];
   const corners = new Set([0, ...turns.map((i) => i - before.length).filter((i) => i > 0)]), ends = [...corners];
   const kept = new Set([...ends, ...ends.slice(1).flatMap((to, k) => spread(way, ends[k], to, near))]);
@@ -99,5 +99,5 @@ export function fitted(hand, near, before = []) {
     if (!added.length) break;
     added.forEach((place) => kept.add(place));
   }
-  return places().map((i) => settled(way[i]));
+  return places().map((i) => within(way[i]));
 }

@@ -71,11 +71,12 @@ export const FULL_PRESSURE = 90;
 /** @type {(point: { x: number, y: number }) => boolean} */
 export const isOnPage = ({ x, y }) => x >= 0 && y >= 0 && x < PAGE_WIDE && y < PAGE_HIGH;
 
+/** The place on the page that is nearest to a point.
+ * @template {{ x: number, y: number }} P
+ * @param {P} point @returns {P} */
+export const within = (point) => ({ ...point, x: Math.min(Math.max(point.x, 0), PAGE_WIDE - 1), y: Math.min(Math.max(point.y, 0), PAGE_HIGH - 1) });
+
 /** The unit of the page that is nearest to a point.
  * @template {{ x: number, y: number }} P
  * @param {P} point @returns {P} */
-export function settled(point) {
-  /** @type {(n: number, many: number) => number} */
-  const within = (n, many) => Math.min(Math.max(Math.round(n), 0), many - 1);
-  return { ...point, x: within(point.x, PAGE_WIDE), y: within(point.y, PAGE_HIGH) };
-}
+export const settled = (point) => within({ ...point, x: Math.round(point.x), y: Math.round(point.y) });

@@ -29,13 +29,16 @@ const DENSE = 4;
 /** Of the way to a point so much, the last part of it, is looked through for a place that a step meets better. */
 const SLIDE = 0.35;
 
+/** To end so far before a point is as bad as this part of it beside the curve. */
+const BEFORE = 0.1;
+
 /** @type {(kind: string, look: { colour: number, width: number }, flag: number, goesOn: boolean, at: Point) => string} */
 const head = (kind, { colour, width }, flag, goesOn, at) => TILDE + kind + spelled(9 * colour + width, 1) + (goesOn ? GOING_ON : FLAGS)[flag] + spelled(at.x, 3) + spelled(at.y, 3);
 
 /** The value of a step of one axis that ends nearest to a place, and on the page.
  * @type {(from: number, to: number, unit: number, many: number) => number} */
 function valueTo(from, to, unit, many) {
-  const value = valueFor((to - from) / unit), end = from + wayOf(value) * unit;
+  const value = valueFor((Math.min(Math.max(to, 0), many - 1) - from) / unit), end = from + wayOf(value) * unit;
   return end < 0 ? value + 1 : end >= many ? value - 1 : value;
 }
 
@@ -59,11 +62,11 @@ class Filling {
   /** @param {Nib} look @param {number} scale @param {Point[]} points @param {Place} from @param {boolean} goesOn */
   constructor({ kind, colour, width, isFree = false }, scale, points, { upTo, part, end }, goesOn) {
     // a text that goes on from a lift begins where the pen is put down, if that is another point
-    const next = points[upTo + 1], isPutDown = goesOn && next?.up && gap(end, next) > 0;
+    const next = points[upTo + 1], isPutDown = goesOn && next?.up && gap(end, settled(next)) > 0;
     this.points = points;
     this.upTo = isPutDown ? upTo + 1 : upTo;
     this.part = part;
-    this.end = isPutDown ? next : end;
+    this.end = isPutDown ? settled(next) : end;
     /** How far the points are off at most. */
     this.off = 0;
     /** The way to the next point, if it needs several steps, and the place on it that was come to.
@@ -81,27 +84,28 @@ class Filling {
    * @param {number} near @param {number} fine @returns {Written} */
   fill(near, fine) {
     for (let next = this.points[this.upTo + 1], hasRoom = true; next && hasRoom; next = this.points[this.upTo + 1]) {
-      const step = next.up ? null : this.slid(fine), way = step ?? this.liftTo(next), stride = step && step.aside > near ? this.stride(fine) : null;
+      const step = next.up ? null : this.slid(), way = step ?? this.liftTo(next), stride = step && step.aside > near ? this.stride(fine) : null;
       hasRoom = stride ? this.goTo(stride) : way !== null && this.pass(way);
     }
     const { text, upTo, part, end, off: worst } = this;
     return { text, upTo, part, end, off: worst };
   }
 
-  /** A step to the next point, or to a place on the curve a little before it, if steps end nearer to the curve there, and how far off it ends. Corners and
+  /** A step to the next point, or to a place on the curve a little before it, if steps end so much nearer to the curve there, and how far off it ends. Corners and
    * ends stay where they are.
-   * @param {number} fine @returns {Way & { aside: number }} */
-  slid(fine) {
+   * @returns {Way & { aside: number }} */
+  slid() {
     const { points, upTo, part, unit } = this, [from, to, after] = points.slice(upTo, upTo + 3), way = this.stepTo(to);
-    let best = { ...way, aside: gap(way.end, to) };
-    if (!this.isFree || best.aside <= fine || !after || after.up || isCorner(from, to, after)) return best;
-    const [b, c] = bend(points, upTo), most = SLIDE * (1 - part), many = Math.ceil((gap(from, to) * most) / unit), { pressure: first = 0.5 } = from, { pressure: last = 0.5 } = to;
-    const at = (/** @type {number} */ k) => along(from, b, c, to, 1 - (most * k) / many);
-    for (let k = 0; k <= many && best.aside > fine; k += 1) {
-      const place = settled(at(k)), next = this.stepTo({ ...place, pressure: last + ((first - last) * most * k) / many }), aside = off(next.end, at(k + 1), k ? at(k - 1) : place);
-      if (aside < best.aside) best = { ...next, aside };
+    let [best, aside, least] = [-1, gap(way.end, to), gap(way.end, to)];
+    if (!this.isFree || !after || after.up || isCorner(from, to, after)) return { ...way, aside };
+    const [b, c] = bend(points, upTo), most = SLIDE * (1 - part), many = Math.ceil((gap(from, to) * most) / unit), at = (/** @type {number} */ k) => along(from, b, c, to, 1 - (most * k) / many);
+    for (let k = 0, here = at(0), last = here; k <= many && k * unit * BEFORE < least; k += 1) {
+      const next = at(k + 1), { end } = this.reached(here), beside = off(end, next, last), costs = beside + BEFORE * gap(end, to);
+      if (costs < least) [best, aside, least] = [k, beside, costs];
+      [last, here] = [here, next];
     }
-    return best;
+    const { pressure: first = 0.5 } = from, { pressure: last = 0.5 } = to;
+    return { ...best < 0 ? way : this.stepTo({ ...at(best), pressure: last + ((first - last) * most * best) / many }), aside };
   }
 
   /** Comes to the next point, or near to it, if there is room.
@@ -150,12 +154,18 @@ class Filling {
     return isIn;
   }
 
+  /** Where a step towards a point ends, and its values.
+   * @param {Point} to */
+  reached(to) {
+    const { end: { x, y }, unit } = this, values = [valueTo(x, to.x, unit, PAGE_WIDE), valueTo(y, to.y, unit, PAGE_HIGH)];
+    return { values, end: { x: x + wayOf(values[0]) * unit, y: y + wayOf(values[1]) * unit } };
+  }
+
   /** A step towards a point.
    * @param {Point} to @returns {Way} */
   stepTo(to) {
-    const { end: { x, y }, unit } = this, values = [valueTo(x, to.x, unit, PAGE_WIDE), valueTo(y, to.y, unit, PAGE_HIGH)];
-    const end = { x: x + wayOf(values[0]) * unit, y: y + wayOf(values[1]) * unit, pressure: to.pressure };
-    return { signs: spelled(values[0], 1) + spelled(values[1], 1) + this.pressed(to), end };
+    const { values, end } = this.reached(to);
+    return { signs: values.map((value) => spelled(value, 1)).join('') + this.pressed(to), end: { ...end, pressure: to.pressure } };
   }
 
   /** A lift to a point. Null if that is too far, or it would end off the page.
@@ -173,15 +183,19 @@ class Filling {
   }
 }
 
-/** The next text of a stroke. It has a coarser scale than that of the look if it holds more so, and is nearer than it need be.
+/** The next text of a stroke. It has a coarser scale than that of the look if it holds more so, and is nearer than it need be; of a hand a finer one if it is nearer so, and
+ * holds no less.
  * @type {(look: Nib, points: Point[], from: Place, goesOn: boolean) => Written} */
 function nextText(look, points, from, goesOn) {
-  const unit = 2 ** look.scale;
-  let best = new Filling(look, look.scale, points, from, goesOn).fill(2.5 * unit, unit / 2);
+  const unit = 2 ** look.scale, filled = (/** @type {number} */ scale, /** @type {number} */ near, /** @type {number} */ fine) => new Filling(look, scale, points, from, goesOn).fill(near, fine);
+  const held = (/** @type {Written} */ { upTo, part }) => upTo + part;
+  let best = filled(look.scale, 2.5 * unit, unit / 2);
+  const finer = look.isFree && look.scale ? filled(look.scale - 1, 1.25 * unit, unit / 4) : best;
+  if (finer.off < best.off && held(finer) >= held(best) && finer.text.length <= best.text.length) best = finer;
   for (let scale = look.scale + 1; scale <= COARSEST && best.upTo + 1 < points.length; scale += 1) {
-    const other = new Filling(look, scale, points, from, goesOn).fill(COARSE * unit, unit / 2);
+    const other = filled(scale, COARSE * unit, unit / 2);
     if (other.off > COARSE * unit) break;
-    if (other.upTo + other.part > best.upTo + best.part) best = other;
+    if (held(other) > held(best)) best = other;
   }
   return best;
 }
@@ -189,8 +203,8 @@ function nextText(look, points, from, goesOn) {
 /** The texts of a stroke, and how far it is written by each. Of a stroke that goes on the first point is the end of the text before.
  * @type {(look: Nib, points: Point[], goesOn?: boolean) => Written[]} */
 export function writeStroke(look, points, goesOn = false) {
-  const way = points.map((point) => settled(point)), texts = [nextText(look, way, { upTo: 0, part: 0, end: way[0] }, goesOn)];
-  while (texts[texts.length - 1].upTo + 1 < way.length) texts.push(nextText(look, way, texts[texts.length - 1], true));
+  const texts = [nextText(look, points, { upTo: 0, part: 0, end: settled(points[0]) }, goesOn)];
+  while (texts[texts.length - 1].upTo + 1 < points.length) texts.push(nextText(look, points, texts[texts.length - 1], true));
   return texts;
 }
 

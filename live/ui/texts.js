@@ -722,6 +722,7 @@ export const TEXTS = {
   "toldShare": ["over a stranger's share", "über den Anteil eines Fremden", "فوق حصة غريب"],
   "toldShareHere": ["over the share of strangers", "über den Anteil der Fremden", "فوق حصة الغرباء"],
   "toldPages": ["strangers are on too many pages, or too many numbers", "Fremde sind auf zu vielen Seiten, oder unter zu vielen Nummern", "الغرباء في صفحات أو أرقام كثيرة"],
+  "toldHoles": ["a stranger left numbers out", "ein Fremder hat Nummern ausgelassen", "غريب ترك أرقاما"],
   "toldNoDatagram": ["no datagram", "kein Datagramm", "ليست حزمة"],
 
   "toldWarnTwin": [

@@ -54,6 +54,8 @@ class Key:
         if self.kind == TAGGED:
             return data + self.tag(data)
         nonce = os.urandom(NONCE)
+        while nonce[0] == TAGGED:  # what begins so is tagged
+            nonce = os.urandom(NONCE)
         return nonce + bytes(self.cipher.encrypt(nonce, data, self.session))
 
     def open(self, closed: bytes) -> Optional[Tuple[bytes, int]]:

@@ -26,7 +26,7 @@ FIELDS = ("sequence number 0", "coordinate over 4095", "glyph outside ! to ~", "
 # the kinds of events
 SENT, NEW, AGAIN, CLASH, LEFT, SHOWN, MISSING, GREATEST, PAGE, NEXT, PAINTED, DROPPED, RECORD, DREW, FETCH, WARN, DIGEST = range(1, 18)
 FATES = {NEW: Became.NEW, AGAIN: Became.AGAIN, CLASH: Became.CLASH, LEFT: Became.FULL}
-DROPS = ("datagram", "own", "speaks", "crowd", "mark", "stranger", "flood", "again", "ahead", "full", "share", "pages")
+DROPS = ("datagram", "own", "speaks", "crowd", "mark", "stranger", "flood", "again", "ahead", "full", "share", "pages", "holes")
 WARNINGS = ("speaks", "mark", "twin", "full", "share")
 
 # the questions

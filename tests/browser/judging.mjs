@@ -11,7 +11,7 @@ import { Judging } from '../../web/member/judging.js';
 import { numberOf, wordOf } from '../../web/member/origins.js';
 import { People } from '../../web/member/people.js';
 import { Record } from '../../web/member/record.js';
-import { MOST_REPORTED, Reported } from '../../web/member/reported.js';
+import { IN_VAIN, MOST_REPORTED, Reported } from '../../web/member/reported.js';
 import { Telling } from '../../web/member/telling.js';
 import { drawopOf } from '../../web/member/views.js';
 import { Wire } from '../../web/member/wire.js';
@@ -122,6 +122,50 @@ function testOrigins() {
   check('and no other later', names.map((name) => String(numberOf(name))), names.map((name) => String(numberOf(name))));
   check('below 2^61, and hardly ever a small one', names.slice(2).map((name) => numberOf(name) > 2n ** 30n && numberOf(name) < 2n ** 61n), names.slice(2).map(() => true));
   check('an origin without an owner, and with one', [X, { place: 'y', owner: 'x' }].map(wordOf), [`${numberOf('x')}`, `${numberOf('y')}@${numberOf('x')}`]);
+}
+
+/** People wait for what members tell of: for no hole below what no member gave, and for nothing that was asked for in vain. */
+async function testAwaited() {
+  const member = memberOf(), { telling, judging, board } = member;
+  Object.assign(member, { inbox: { dropped: 0, bad: 0 }, transport: { state: '' } });
+  const awaits = () => { telling.tellHealth(); return member.health.missing; };
+  const given = (source, seq, isStrange = false) => {
+    member.drawn.add(drawopOf(drawing(source, seq)));
+    if (isStrange) board.strange.add(`${source} 7/1 ${seq}`);
+    telling.noticeFate({ source, page: '7/1', seq }, 'new');
+  };
+  const ask = () => judging.goes(datagramOf('request 1 7 7/1 2'), 28);
+  given(900, 2 ** 32 - 1, true);
+  check('nothing is missing below a drawing of a stranger', awaits(), 0);
+  await meet(member, 9, X, ' 900=4294967295');
+  check('nor if a member has it too', awaits(), 0);
+  for (const seq of [1, 5]) given(7, seq);
+  check('three are below what a member gave', awaits(), 3);
+  await meet(member, 9, X, ' 7=9');
+  given(7, 1_000, true);
+  check('and one is told by its mark, also beside one of a stranger of that number', awaits(), 4);
+  for (let asked = 0; asked < 2 * IN_VAIN; asked += 1) ask();
+  check('while nobody is heard, it is waited for', awaits(), 4);
+  for (let asked = 1; asked < IN_VAIN; asked += 1) {
+    check(`asked ${asked} times in vain`, awaits(), 4);
+    await meet(member, 9, X, ' 7=9');
+    ask();
+  }
+  check('what nobody has is not waited for', awaits(), 0);
+  given(8, 3);
+  check('what another has is', awaits(), 2);
+  given(7, 900, true);
+  check('no drawing of a stranger changes that', awaits(), 2);
+  given(7, 2);
+  check('one that comes of a member does', awaits(), 5);
+  judging.goes(datagramOf('request 1 8 7/1 1'), 28);
+  for (let asked = 0; asked < IN_VAIN; asked += 1) {
+    await meet(member, 9, X, ' 7=9');
+    ask();
+  }
+  check('nor is one waited for whose turn to be asked for has not come again', awaits(), 0);
+  for (let page = 0; page < 2 * MOST_REPORTED; page += 1) telling.reported.ask(`7 9/${page} 1`);
+  check('what is remembered is bounded', [telling.reported.asked.size, telling.reported.since.size], [MOST_REPORTED, MOST_REPORTED]);
 }
 
 async function testReports() {
@@ -389,7 +433,7 @@ async function testLast() {
   await act();
   check('a drawing that nothing follows', [moment, repeated, judging.plan().length], [1.25 * SECOND, ['01'], 1]);
   member.board.moment = moment;
-  judging.goes({ kind: 'request' }, 28);
+  judging.goes({ kind: 'request', name: '7 7/1 2' }, 28);
   member.at = 2 * SECOND;
   await judging.plan()[0][1]();
   check('goes a last time where something was lost', [repeated, judging.plan()], [['01', '01'], []]);
@@ -460,7 +504,7 @@ async function testMembers() {
   check('by their numbers', [member.members.members.length, member.members.members.slice(-2)], [500, [{ member: 500, delay: null, heard: 0, holds: null }, { member: 900, delay: 0.002, heard: 0, holds: null }]]);
 }
 
-const TESTS = [testOrigins, testReports, testWarnings, testClash, testRefused, testRecord, testHeard, testMoves, testNear, testFollowed, testPatience, testTime, testRoom, testKeptCells, testWaiting, testNewPage, testLast, testPages, testHealth, testShowings, testMembers];
+const TESTS = [testOrigins, testReports, testAwaited, testWarnings, testClash, testRefused, testRecord, testHeard, testMoves, testNear, testFollowed, testPatience, testTime, testRoom, testKeptCells, testWaiting, testNewPage, testLast, testPages, testHealth, testShowings, testMembers];
 
 export async function testJudging() {
   for (const test of TESTS) await test();

@@ -163,6 +163,14 @@ async function testSealed() {
   for (const it of [...wire, ...wire]) for (const each of [one, other]) await each.take(it, NOWHERE);
   check('each is heard once, by others alone', taken, [[1, one.tag], [2, one.tag]]);
   check('a tag is of a start, below 2^63', [one.tag === other.tag, /^[0-7][0-9a-f]{15}$/.test(one.tag), one.strangers], [false, true, 0]);
+  let tried = 0;
+  const closes = { ...seal, tags: true, open: async () => { tried += 1; return null; } }, third = new Sealed(closes, () => {}), room = new Uint8Array(40);
+  third.counters.takes(one.tag, 7n);
+  const begun = (/** @type {number[]} */ ...first) => new Uint8Array([...first, ...room]);
+  for (const it of [begun(87, 66, 1, 2), begun(87, 66, 2, 1), begun(87, 80, 1, 0), begun(87, 71, 1, 0), room.subarray(0, 32), writeEnvelope(one.tag, 7n, room, 3)]) await third.take(it, NOWHERE);
+  check('on what no key closed, and on what came, nothing is tried', [tried, third.foreign], [0, 5]);
+  for (const it of [begun(87, 66, 3, 1), begun(87, 80, 1, 1), room, writeEnvelope(one.tag, 8n, room, 3)]) await third.take(it, NOWHERE);
+  check('on all else it is', [tried, third.foreign], [4, 9]);
   const wills = [await one.will(), await one.will()].map(async (it) => readEnvelope((await seal.open(await it)).plain)), [first, second] = await Promise.all(wills);
   check('each will has a tag of its own', [first.tag === second.tag, first.tag === one.tag, readGone(first.bytes), readGone(second.bytes)], [false, false, one.tag, one.tag]);
 }

@@ -147,8 +147,8 @@ def texts(path: Path) -> Iterator[str]:
         yield "\n".join(re.sub(r"^# ?", "", line) for line in itertools.takewhile(lambda it: it.startswith("#"), source.splitlines()))
 
 
-# a new comment has its crate proved anew, so these are mended with the next change of theirs
-LATER = {TOP / "crates/wb_feed/src/workers.rt", TOP / "crates/wb_lines/specs/Progress.antt"}
+# a new comment has its crate proved anew, so this one is mended with the next change of it
+LATER = {TOP / "crates/wb_lines/specs/Progress.antt"}
 
 COMMENTS = sorted({path for part in COMMENTED for path in [TOP / part, *(TOP / part).rglob("*")] if is_source(path)} - LATER)
 

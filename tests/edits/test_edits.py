@@ -17,10 +17,10 @@ from .. import clauses, refusals
 
 TOP = Path(__file__).resolve().parents[2]
 EDITS = sorted(TOP.glob("crates/*/must-fail/*.edit"))
-MOST = 182
+MOST = 183
 REFUSED = "refused, as it must be"
-# crates of which each edit was tried without its clauses; add the others as they are
-TRIED = tuple("wb_board wb_codec wb_digest wb_display wb_filters wb_gaps wb_lines wb_member wb_names wb_policy wb_recovery wb_words".split())
+# crates of which some edits were not tried without their clauses; none of them is to stay
+UNTRIED = tuple("wb wb_c wb_dialog wb_feed wb_script".split())
 
 
 def crate_of(edit: Path) -> str:
@@ -85,7 +85,7 @@ def test_each_has_a_row_in_the_table() -> None:
 
 
 def test_edits_were_tried_without_their_clauses() -> None:
-    rows = {name: row[1] for name, row in clauses.table().items() if name.split("/")[0] in TRIED}
+    rows = {name: row[1] for name, row in clauses.table().items() if name.split("/")[0] not in UNTRIED}
     assert [name for name, told in rows.items() if told == clauses.NOT_YET or clauses.ENDED in told] == []
 
 

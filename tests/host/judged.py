@@ -29,11 +29,11 @@ def judged(datagram: Datagram) -> reference.Datagram:
     match datagram:
         case Drawop(name, time, operation):
             return reference.Datagram("draw", name.source, judged_name(name), time, operation[0] < 4)
-        case Message(sender, sent, _, marks, echoes):
+        case Message(sender, sent, page, marks, echoes):
             told = {source: (at, held) for source, at, held in echoes}
-            return reference.Datagram("session-message", sender, sent=sent, marks=dict(marks), echoes=told)
-        case State(sender, _, marks):
-            return reference.Datagram("page-state", sender, marks=dict(marks))
+            return reference.Datagram("session-message", sender, sent=sent, marks=dict(marks), echoes=told, page=paged(page))
+        case State(sender, page, marks):
+            return reference.Datagram("page-state", sender, marks=dict(marks), page=paged(page))
         case Request(asker, name):
             return reference.Datagram("request", asker, judged_name(name))
         case AskPages(asker):
@@ -77,9 +77,6 @@ class Judged:
 
     # ---- what the host says of itself
 
-    def own_top(self, page: Page) -> int:
-        return dict(self.kept.host.highest(page)).get(self.kept.host.me, 0)
-
     def last_of_ours(self, page: Page) -> int:
         """The greatest number of ours that is held or was heard of."""
         return int(self.kept.host.next(page).split()[1]) - 1
@@ -90,7 +87,7 @@ class Judged:
         lacking = sum(max(0, high - highest.get(source, 0)) for source, high in marks_of(datagram)[:TOLD] if source != host.me)
         holds = isinstance(datagram, (Drawop, Request)) and datagram.name in host.held
         is_above = isinstance(datagram, Drawop) and datagram.name.seq > self.last_of_ours(datagram.name.page)
-        top = self.own_top(page) if page and not isinstance(datagram, Drawop) else 0
+        top = highest.get(datagram.name.source if isinstance(datagram, Drawop) else host.me, 0)
         return reference.Facts(now, len(host.held), now < self.kept.ready, holds, is_above, top, lacking)
 
     # ---- the lines

@@ -24,6 +24,7 @@ OLD = 4
 SHORTEST_GAP, LONGEST_GAP = SECOND, 16 * SECOND  # from one turn to the next
 STEADINESS = 128
 ECHOES = 32
+FIRSTS = 24  # echoes of members that have answered, before the others have their turn
 MARKS = 64
 PAGES = 64
 STATE_BYTES = 534  # the most of a page state
@@ -100,6 +101,8 @@ class Kept:
     told_page: Page = NOWHERE
     told: int = -1
     until: int = 0
+    in_turn: bool = False
+    echoed: int = 0
     looked: tuple[Page, int, int] = (NOWHERE, 0, 0)
     round: int = 0
     step: int = 0
@@ -376,8 +379,26 @@ class Kept:
         self.sent.append(f"send {digits}\n")
 
     def report(self) -> None:
+        """What is in turn, and the next time what changed last."""
+        now, newest = self.host.now, next(reversed(self.host.held), None) if self.in_turn else None
+        page, marks = self.marks_with(newest) if newest else self.marks_in_turn()
+        self.in_turn = newest is None
+        echoes = self.echoes()
+        self.send(datagrams.session(self.host.me, now, page, marks, echoes))
+        members = 1 + sum(now - at < GONE for _, at in self.host.senders.values())
+        size = 32 + 8 * len(marks) + 20 * len(echoes)
+        mean = min(max(members * size * SECOND // self.rate, 2 * SECOND), 64 * SECOND)
+        self.report_at = now + mean // 2 + self.word(mean)
+
+    def marks_with(self, name: Name) -> tuple[Page, list[Mark]]:
+        """The first marks of the page of a name, or those from its source on, if it is not among these."""
+        whole = self.host.highest(name.page)
+        is_among = name.source in [source for source, _ in whole[:MARKS]]
+        return name.page, whole[:MARKS] if is_among else [mark for mark in whole if mark[0] >= name.source][:MARKS]
+
+    def marks_in_turn(self) -> tuple[Page, list[Mark]]:
         """The rest of the page that is being reported, or the next page."""
-        now, pages = self.host.now, self.host.drawn_on()
+        pages = self.host.drawn_on()
         page, is_telling = self.told_page, 0 <= self.told < self.until
         marks = [mark for mark in self.host.highest(page) if mark[0] > self.told][:MARKS] if is_telling else []
         if not marks:
@@ -385,10 +406,17 @@ class Kept:
             whole = self.host.highest(page)
             marks, self.until = whole[:MARKS], whole[-1][0] if whole else 0
         self.told_page, self.told = page, marks[-1][0] if marks else -1
-        last = sorted(self.host.senders, key=lambda sender: (-self.host.senders[sender][1], sender))[:ECHOES]
-        echoes = [(sender, self.host.senders[sender][0], now - self.host.senders[sender][1]) for sender in sorted(last)]
-        self.send(datagrams.session(self.host.me, now, page, marks, echoes))
-        members = 1 + sum(now - at < GONE for _, at in self.host.senders.values())
-        size = 32 + 8 * len(marks) + 20 * len(echoes)
-        mean = min(max(members * size * SECOND // self.rate, 2 * SECOND), 64 * SECOND)
-        self.report_at = now + mean // 2 + self.word(mean)
+        return page, marks
+
+    def echoes(self) -> list[Echo]:
+        """First those that have answered and are here, 24 at most; then the others that are here, and those that are gone, in turn."""
+        held = {sender: self.host.now - at for sender, (_, at) in self.host.senders.items()}
+
+        def turn(sender: int) -> tuple[bool, int]:
+            return sender <= self.echoed, sender
+
+        answered = [sender for sender in held if held[sender] < GONE and self.host.delay(sender) != UNKNOWN_DELAY]
+        firsts = sorted(answered, key=turn)[:FIRSTS]
+        others = sorted(held.keys() - firsts, key=lambda sender: (held[sender] >= GONE, turn(sender)))[: ECHOES - len(firsts)]
+        self.echoed = max((sender for sender in others if held[sender] < GONE), default=self.echoed)
+        return [(sender, self.host.senders[sender][0], held[sender]) for sender in sorted([*firsts, *others])]

@@ -260,6 +260,22 @@ class KeptSession(Session):
         return given, printed
 
 
+class Crowd(KeptSession):
+    """Sixty senders, of whom some answer, and some are not heard for minutes."""
+
+    def __init__(self, numbers: random.Random) -> None:
+        super().__init__(numbers)
+        self.lines = [self.come, self.come, self.come, self.on]
+
+    def datagram(self) -> Datagram:
+        sender, now = 100 + self.below(self.random.choice([8, 60])), self.model.now
+        echoes: list[Echo] = [(ME, max(0, now - 9), min(now, 3))] if sender % 2 == self.seed % 2 else []
+        return Message(sender, now, self.page(), [], echoes)
+
+    def moment(self) -> int:
+        return max(self.model.now, self.kept.due()) if self.below(3) == 0 else self.model.now + self.below(self.random.choice([2_000, 30_000_000]))
+
+
 def test_seldom() -> None:
     """A name that a report told, and that lies in no hole, is not asked for anew in ten minutes, and is requested 15 times: the bound that is proved is reached."""
     dialog = Dialog()
@@ -320,8 +336,8 @@ def test_askers() -> None:
 
 
 def test_starving() -> None:
-    """One forged drawop a second, of ever greater sources on one page, for nine minutes: reports tell the other pages all the same. The telling
-    of the page ends after as many reports as it had slices when it began."""
+    """One forged drawop a second, of ever greater sources on one page, for nine minutes: every second report tells that page, and the others tell all
+    in turn. The telling of the page ends after as many reports in turn as it had slices when it began."""
     dialog = Dialog()
     for line in f"board {ME} 1000 1 {SEED}", "keep 4000 0", f"came 0 {dot(9, (7, 2), 1)}", f"came 0 {dot(9, (7, 3), 1)}":
         block = dialog.ask(line)
@@ -335,10 +351,12 @@ def test_starving() -> None:
         block = dialog.ask(f"came {second}000000 {dot(100 + second, PAGE, 1)}")
     dialog.end()
     pages = {page: f"{page[0]:08x}{page[1]:08x}" for page in (PAGE, (7, 2), (7, 3))}
-    others = sum(page != pages[PAGE] for page, _ in told)
-    assert (len(told) > 200, others > 80) == (True, True), "of reports beside forged drawops, so many tell other pages"
+    in_turn, newest = told[::2], told[3::2]
+    others = sum(page != pages[PAGE] for page, _ in in_turn)
+    assert (len(told) > 200, others > 40) == (True, True), "of reports beside forged drawops, so many tell other pages"
+    assert {page for page, _ in newest} == {pages[PAGE]}, "every second report tells the page that changed last"
     longest, run = 0, 0
-    for page, second in told:
+    for page, second in in_turn:
         run = run + 1 if page == pages[PAGE] else 0
         longest = max(longest, run - (second + 63) // 64)
     assert longest <= 0, "a telling takes no more reports than its page has slices"
@@ -456,16 +474,45 @@ def hearing(heard: list[tuple[int, int]]) -> str:
     return f"board 1 100 1 {SEED}\nkeep 4000 0\n" + "".join(came)
 
 
-def test_echoes() -> None:
-    """A report echoes the 32 senders that were heard last; of those heard at one moment, those with the least numbers."""
+def test_strangers() -> None:
+    """The first report echoes the 32 senders of the least numbers, if none has answered, whenever and in whatever order they were heard."""
     for count in 31, 32, 33, 400:
         for together in 1, 3, count:
             for name, heard in heard_by(count, together):
-                last = sorted(heard, key=lambda one: (-one[1], one[0]))[:32]
-                echoes: list[Echo] = [(sender, sender, REPORT - at) for sender, at in sorted(last)]
+                echoes: list[Echo] = [(sender, sender, REPORT - at) for sender, at in sorted(heard)[:32]]
                 said = host(hearing(heard) + f"tick {REPORT}\n").splitlines()[-2]
                 wanted = f"send {report(REPORT, (0, 0), [], echoes)}"
                 assert said == wanted, f"echoes of {count} senders, {name}, {together} at once"
+
+
+def echoed_in(count: int, *lines: str) -> list[list[int]]:
+    """Whom each of `count` reports without marks echoes after these lines."""
+    dialog, told = Dialog(), list[list[int]]()
+    block = "".join(dialog.ask(line) for line in (f"board {ME} 100 1 {SEED}", "keep 1000000 0", *lines))
+    while True:
+        reports = [bytes.fromhex(line[5:]) for line in block.splitlines() if line.startswith("send 57420102")]
+        told += [[int.from_bytes(data[at : at + 4], "big") for at in range(32, len(data), 20)] for data in reports]
+        if len(told) >= count:
+            break
+        block = dialog.ask(f"tick {block.split()[-1]}")
+    dialog.end()
+    return told
+
+
+def test_echoes() -> None:
+    """Of 40 strangers and a member that has answered, a report echoes that one, and 31 of the others: those above the last that had its turn, and
+    then round. Beside 30 that have answered, 8 places stay for the others. Who was not heard for 192 seconds comes last."""
+
+    def heard(senders: list[int], echoes: list[Echo], now: int = 0) -> list[str]:
+        return [f"came {now} {session(sender, 5, PAGE, [], echoes)}" for sender in senders]
+
+    answer, strangers = [(ME, 0, 0)], heard([*range(100, 140)], [])
+    want = [[*range(100, 131)], [*range(100, 122), *range(131, 140)], [*range(100, 131)]]
+    assert echoed_in(3, *strangers, *heard([7], answer)) == [[7, *numbers] for numbers in want], "one has answered"
+    want = [[*range(100, 108), *range(200, 224)], [*range(108, 116), *range(200, 224)]]
+    assert echoed_in(2, *strangers, *heard([*range(200, 230)], answer)) == want, "thirty have"
+    again = heard([*range(135, 140)], [], 193_000_000)
+    assert echoed_in(2, *strangers, *heard([7], answer), *again)[1] == [7, *range(100, 126), *range(135, 140)], "five are here"
 
 
 def least_time(given: str) -> float:
@@ -489,4 +536,10 @@ def test_crowd() -> None:
 @pytest.mark.parametrize("seed", seeds(16))
 def test_random(seed: int) -> None:
     given, printed = KeptSession(random.Random(seed)).conversation()
+    assert first_difference(given, host(given), printed) == ""
+
+
+@pytest.mark.parametrize("seed", seeds(8))
+def test_crowded(seed: int) -> None:
+    given, printed = Crowd(random.Random(seed)).conversation()
     assert first_difference(given, host(given), printed) == ""

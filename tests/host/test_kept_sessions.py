@@ -8,7 +8,7 @@ from typing import Callable
 import pytest
 
 from . import datagrams
-from .network import PATIENCE, SECOND, Network
+from .network import PATIENCE, SECOND, Member, Network
 
 PAGES = [(1, 1), (1, 2), (2, 1), (3, 7)]
 SESSIONS = 14
@@ -178,6 +178,44 @@ def test_forged(name: str) -> None:
     print(f"forged {name}: whole {whole} s after the last drawing, {asked / FORGING:.1f} requests/s of a member at most")
     assert whole <= (PATIENCE if name == RARE else 60)
     assert asked <= 30 * FORGING
+    assert network.end() == []
+
+
+def echoed_by(digits: str) -> set[int]:
+    """The sources that a report echoes."""
+    data = bytes.fromhex(digits)
+    first = 32 + 8 * int.from_bytes(data[28:30], "big")
+    return {int.from_bytes(data[at : at + 4], "big") for at in range(first, len(data), 20)}
+
+
+def test_newcomer() -> None:
+    """Beside 250 numbers that are made up, a newcomer and a member soon echo one another, and from then on do so in each report."""
+    network = Network(41, lost=0.0)
+    reports: dict[int, list[bool]] = {}
+
+    def send(sender: Member, digits: str) -> None:
+        if int(digits[6:8], 16) == datagrams.SESSION:
+            reports.setdefault(sender.number, []).append(3 - sender.number in echoed_by(digits))
+        Network.send(network, sender, digits)
+
+    setattr(network, "send", send)
+    network.join()
+    for turn in range(100 * 60):
+        network.until(network.now + SECOND // 10)
+        if turn == 100:
+            network.join()
+        for member in network.members:
+            network.come(member, datagrams.session(10_000 + turn % 250, turn, PAGES[0], [], []))
+        if all(len(them) > 3 and all(them[-3:]) for them in reports.values()) and len(reports) == 2:
+            break
+    print(f"beside 250 made-up numbers: known to one another in three reports {network.now / SECOND:.0f} s after the start")
+    assert network.now < 100 * 6 * SECOND, "they echo one another in three reports in a row"
+    before = {number: len(them) for number, them in reports.items()}
+    for turn in range(30 * 60):
+        network.until(network.now + SECOND // 10)
+        for member in network.members:
+            network.come(member, datagrams.session(10_000 + turn % 250, turn, PAGES[0], [], []))
+    assert all(all(them[before[number] :]) and len(them) > before[number] for number, them in reports.items()), "and in each from then on"
     assert network.end() == []
 
 

@@ -168,14 +168,17 @@ test('calls by bytes: the conversation of docs/HOST-LINES.md with a self-managin
   check('a host that is not judged knows no origins', bare.cameFrom(34_890, { place: 5n, owner: null }, unhex(STROKE)).refused, 'not judged');
 });
 
+/** STROKE as the first drawing of its source: a judged host takes no other of a stranger. */
+const FIRST = `${STROKE.slice(0, 40)}00000001${STROKE.slice(48)}`;
+
 test('calls by bytes of a judged host', async () => {
   const bare = await program.start();
   check('lines open it', ['board 1 1024 1 42', 'judge 0 4000 0 1764000000000000 - -'].map((line) => bare.ask(line).fault), [null, null]);
-  const judged = bare.cameFrom(10, { place: 5n, owner: 6n }, unhex(STROKE));
-  check('it says what to record, and what it holds', [judged.records, judged.drew, judged.became, judged.dropped], [['tick 10', 'draw 7 7/1 2 20 line 0 0 4 0 +'], ['7 7/1 2'], 'new', null]);
-  check('and why it drops', [STROKE, '5742'].map((given) => bare.cameFrom(11, { place: 5n, owner: null }, unhex(given)).dropped), ['again', 'datagram']);
+  const judged = bare.cameFrom(10, { place: 5n, owner: 6n }, unhex(FIRST));
+  check('it says what to record, and what it holds', [judged.records, judged.drew, judged.became, judged.dropped], [['tick 10', 'draw 7 7/1 1 20 line 0 0 4 0 +'], ['7 7/1 1'], 'new', null]);
+  check('and why it drops', [FIRST, '5742'].map((given) => bare.cameFrom(11, { place: 5n, owner: null }, unhex(given)).dropped), ['again', 'datagram']);
   check('who is gone, and the time of day', [bare.gone(12, { place: 5n, owner: null }), bare.wall(13, 5_000_000), bare.wall(14, 2 ** 62)].map(({ refused }) => refused), [null, null, 'number']);
-  check('what comes without its origin is refused', bare.came(14, unhex(STROKE)).refused, 'judged');
+  check('what comes without its origin is refused', bare.came(14, unhex(FIRST)).refused, 'judged');
   const ours = bare.add(14, unhex(OURS));
   check('a drawing is recorded, at its own time', [ours.records, ours.send.length], [['tick 14', 'say draw 1 7/1 1 5000001 text 1 1 "yes"'], 1]);
   bare.renew();

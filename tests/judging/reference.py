@@ -30,6 +30,9 @@ STRANGERS, OF_ORIGIN, LEAST_SHARE = 16, 128, 16
 # sources of a page in parts, so each keeps what members draw from being told for a while.
 STRANGE_PAGES, STRANGE_ROWS = 16, 256
 
+# marks that are remembered of those that members told
+MOST_TOLD = 1_024
+
 # one cell in RESERVE is kept for deletes and restores of members
 RESERVE = 32
 
@@ -84,6 +87,7 @@ class Datagram:
     sent: int = 0
     marks: Dict[int, int] = field(default_factory=dict)
     echoes: Dict[int, Tuple[int, int]] = field(default_factory=dict)
+    page: str = ""  # of a report
 
 
 @dataclass(frozen=True)
@@ -95,7 +99,7 @@ class Facts:
     listens: bool = False
     holds: bool = False  # the drawop, or what the request asks for
     above: bool = False  # the number of a drawop is above all of ours on its page that are held or were heard of
-    top: int = 0  # the greatest number of ours that is held on the page of a report
+    top: int = 0  # the greatest number that is held: of ours on the page of a report, of the source of a drawop on its page
     lacking: int = 0  # numbers up to the marks of a report that are not held
 
 
@@ -145,6 +149,7 @@ class Judge:
         self.own: List[int] = []
         self.aliens: Dict[Origin, Tuple[int, int]] = {}  # of the last report under our number from there that is not ours: its moment, and when it came
         self.strange: Dict[Name, Origin] = {}  # what is held that no known origin gave
+        self.told: List[Name] = []  # marks that members told
         self.new = Bucket(MOST_NEW, NEW_PAUSE)
         self.answering = Bucket(MOST_ANSWERING, NEW_PAUSE)
         self.asked = Bucket(MOST_ASKED, ASKED_PAUSE)
@@ -235,11 +240,28 @@ class Judge:
         opens_page, opens_row = name.page not in pages, (name.source, name.page) not in rows
         return opens_page and len(pages) >= STRANGE_PAGES or opens_row and len(rows) >= STRANGE_ROWS
 
+    def is_told(self, name: Name) -> bool:
+        """Whether a member told a mark of its source on its page that is as high: so there are such drawops."""
+        return any(told[:2] == name[:2] and told.number >= name.number for told in self.told)
+
+    def hear_marks(self, datagram: Datagram) -> None:
+        """A member reports marks."""
+        for source, high in sorted(datagram.marks.items()):
+            name = Name(source, datagram.page, high)
+            if not self.is_told(name):
+                self.told = [*self.told, name][-MOST_TOLD:]
+
     # ---- what comes in
 
     def judge(self, origin: Origin, datagram: Datagram, facts: Facts) -> Verdict:
         if self.is_known(origin, facts.now):
             self.known[origin] = facts.now
+        verdict = self.verdict(origin, datagram, facts)
+        if self.is_known(origin, facts.now):
+            self.hear_marks(datagram)
+        return verdict
+
+    def verdict(self, origin: Origin, datagram: Datagram, facts: Facts) -> Verdict:
         if datagram.kind == "draw":
             return self.judge_drawop(origin, datagram, facts)
         if self.is_forged(datagram.speaker, origin):
@@ -341,6 +363,8 @@ class Judge:
             return Verdict("share", "share" if self.most_strange else None)
         if not is_known and datagram.name is not None and self.is_wide(datagram.name):
             return Verdict("pages")
+        if not is_known and datagram.name is not None and datagram.name.number > facts.top + 1 and not self.is_told(datagram.name):
+            return Verdict("holes")
         return Verdict()
 
     def is_forged_drawop(self, is_known: bool, datagram: Datagram, facts: Facts) -> bool:

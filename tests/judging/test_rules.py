@@ -58,6 +58,11 @@ RULES = [
     Rule("ours are listed first", "rank = 0 if name.source == self.me else 2", "rank = 2", "pages are not pushed out"),
     Rule("strangers' are listed last", "2 if name in self.strange else 1", "1", "pages are not pushed out"),
     Rule("strangers open few pages", "and self.is_wide(datagram.name)", "and False", "strangers open few pages"),
+    # holes below strangers' drawops
+    Rule("strangers leave no holes", "and datagram.name.number > facts.top + 1", "and False", "a stranger's great number has nobody ask for those below"),
+    Rule("or a member told of it", "and not self.is_told(datagram.name):\n            return Verdict(\"holes\")", "and datagram.name:\n            return Verdict(\"holes\")", "or up to a mark that a member told"),
+    Rule("and no stranger", "        if self.is_known(origin, facts.now):\n            self.hear_marks(datagram)\n", "        self.hear_marks(datagram)\n",
+         "a stranger's great number has nobody ask for those below"),
     # what is hushed and put off
     Rule("a stranger's copy ends no repair", "not self.hushes(origin, datagram.name, facts.now) else None)", "False else None)", "repairs are not hushed"),
     Rule("nor a member's, if the name is firm", "return self.is_known(origin, now) and not self.is_firm(name, now)", "return self.is_known(origin, now)", "repairs are not hushed"),

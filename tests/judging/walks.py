@@ -27,14 +27,14 @@ class Walk:
 
     def datagram(self) -> str:
         number, time = self.number(), WALL + self.random.choice([0, self.now, 1_800 * S, 3 * 86_400 * S])
-        kind, seq = self.random.randrange(8), self.random.randrange(1, 30)
+        kind, seq = self.random.randrange(8), self.random.randrange(1, 30) + self.random.choice([0, 0, 0, 60])
         if kind < 3:
             return line(number, seq, time, "1/%d" % self.random.randrange(3))
         if kind == 3:
             return delete(number, seq, time)
         if kind < 6:
             return report(number, *self.marks(), *self.echo())
-        return self.random.choice(["request %d %d 1/1 %d" % (number, self.number(), seq), "ask-pages %d" % number, "page-state %d 1/1 3=%d" % (number, seq)])
+        return self.random.choice(["request %d %d 1/1 %d" % (number, self.number(), seq), "ask-pages %d" % number, "page-state %d 1/1 3=%d" % (number, seq + 60)])
 
     def marks(self) -> List[str]:
         return ["1=%d" % self.random.choice([1, 9, 70_000])] if self.random.random() < 0.3 else []

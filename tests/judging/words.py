@@ -41,4 +41,4 @@ def datagram_of(words: str) -> Datagram:
         else:
             number, high = word.split("=")
             marks[int(number)] = int(high)
-    return Datagram(kind, int(speaker), sent=sent, marks=marks, echoes=echoes)
+    return Datagram(kind, int(speaker), sent=sent, marks=marks, echoes=echoes, page=rest[0])

@@ -22,7 +22,7 @@ DRAFT = "draw 4294967295 {page} 4294967295 {time} {operation}"
 
 # at a judged host: what became of a drawop, why what came is dropped, and what people are warned of
 FATES = {NEW: "new", AGAIN: "again", CLASH: "clash", LEFT: "left"}
-DROPS = ["datagram", "own", "speaks", "crowd", "mark", "stranger", "flood", "again", "ahead", "full", "share", "pages"]
+DROPS = ["datagram", "own", "speaks", "crowd", "mark", "stranger", "flood", "again", "ahead", "full", "share", "pages", "holes"]
 WARNINGS = ["speaks", "mark", "twin", "full", "share"]
 JUDGED = re.compile(r"came \d+ \d+(?:@\d+)? (?:[0-9a-fA-F]{2})+|tick \d+|wall \d+ \d+|gone \d+ \d+(?:@\d+)?|add \d+ \d+/\d+ .*")
 

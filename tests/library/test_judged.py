@@ -31,10 +31,10 @@ PATIENCE = 60.0  # seconds
 
 @pytest.fixture
 def judged(library: Path) -> JudgedByBytes:
-    """A judged host that holds a drawop of a stranger."""
+    """A judged host that holds two drawops of another, with holes before them."""
     host = JudgedByBytes(library)
     host.open()
-    for line in ("board 1 1024 1 42", "judge 0 4000 0 1764000000000000 - -", f"came 10 5 {drawn(9, 2).hex()}"):
+    for line in ("board 1 1024 1 42", "judge 0 4000 0 1764000000000000 - -", *(f"held datagram {drawn(9, seq).hex()}" for seq in (2, 4)), "tick 10"):
         assert b"refused" not in host.line(line.encode(), 400)[2]
     return host
 
@@ -147,7 +147,6 @@ def test_only_a_judged_host_takes_origins(library: Path) -> None:
 
 def test_questions_by_bytes_are_answered(judged: JudgedByBytes) -> None:
     judged.line(b"add 11 7/1 line 0 0 4 0 +", 900)
-    judged.line(b"came 12 5 " + drawn(9, 4).hex().encode(), 900)
     found = []
     for question, creator, number, width, height in ((1, 7, 1, 0, 0), (2, 7, 1, 0, 0), (3, 7, 1, 0, 0), (4, 7, 1, 0, 0), (5, 0, 0, 0, 0), (7, 7, 1, 5, 1)):
         given = (ctypes.c_uint32(it) for it in (question, creator, number, width, height))

@@ -223,6 +223,6 @@ def test_header_has_each_event_and_question() -> None:
 def test_header_has_each_reason_and_warning() -> None:
     header, judged = (TOP / "include/wb.h").read_text(), (TOP / "crates/wb_c/src/judged_event.rt").read_text()
     drops = dict(re.findall(r"^    WB_DROP_(\w+) = (\d+)", header, re.MULTILINE))
-    assert drops == {"DATAGRAM": "1", **{name.upper(): number for name, number in re.findall(r"Why::(\w+) => (\d+),", judged)}} and len(drops) == 12
+    assert drops == {"DATAGRAM": "1", **{name.upper(): number for name, number in re.findall(r"Why::(\w+) => (\d+),", judged)}} and len(drops) == 13
     warned = [WARNED[name] + number for name, number in re.findall(r"Warning::(\w+)(?:\(_\))? => (\d+),", judged)]
     assert warned == [name + number for name, number in re.findall(r"^    WB_WARN_(\w+) = (\d+)", header, re.MULTILINE)] and len(warned) == 5

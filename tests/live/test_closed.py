@@ -10,6 +10,7 @@ import tempfile
 import time
 from concurrent.futures import ThreadPoolExecutor
 from pathlib import Path
+from types import SimpleNamespace
 from typing import Any, Dict, Iterator, List, Tuple
 
 import pytest
@@ -242,7 +243,8 @@ def test_tries(facts: Facts) -> None:
     """On what begins as a datagram does that no key closed, nothing is tried: it would cost the time of a processor."""
     from live.carriers.sealed import Seal, Sealed
 
-    ours, wire, inbox, tried = Seal(new_key(tags=True), "board"), Wire(), Kept(), []  # type: Seal, Wire, Kept, List[bytes]
+    key, wire, inbox, tried = new_key(tags=True), Wire(), Kept(), []  # type: str, Wire, Kept, List[bytes]
+    ours, other = Seal(key, "board"), Seal(key, "board")
     ours.read = lambda data: tried.append(data)  # type: ignore[assignment]
     Sealed(wire, ours).begin(inbox)
     plain = [each + bytes(40) for each in (drawn(7, 1, 2, 3, b"x"), session(7, 5), asking(7), b"WB\2\1", write(Pointed(7, (1, 1), (3, 4), [])), b"WG\1\0")]
@@ -250,6 +252,24 @@ def test_tries(facts: Facts) -> None:
     for data in [*plain, *closed, bytes(32), b""]:
         wire.inbox.arrive(data, HOME)
     facts("what may be closed is tried, and all is counted", (tried, inbox.missed), (closed, len(plain) + len(closed) + 2))
+    del ours.read
+    sent, read = other.send(b"WB"), ours.read
+    ours.read = lambda data: tried.append(data) or read(data)  # type: ignore[assignment, func-returns-value]
+    for data in (sent, sent, sent[:-1] + bytes([sent[-1] ^ 1])):
+        wire.inbox.arrive(data, HOME)
+    facts("nor on what came, which its envelope tells in the open", (tried[len(closed):], len(inbox.came)), ([sent], 1))
+
+
+def test_costs(facts: Facts) -> None:
+    """A tag that is wrong is not tried as a seal too, which costs many times as much; and no nonce begins as what is tagged does."""
+    from live.carriers.sealed import Seal, new_nonce
+
+    ours, tried = Seal(new_key(tags=True), "board"), []  # type: Seal, List[bytes]
+    ours.cipher = SimpleNamespace(decrypt=lambda nonce, *_: tried.append(nonce))
+    wrong = Seal(new_key(tags=True), "board").send(b"WB")
+    facts("what begins as a tagged one is looked at as such alone", (ours.read(wrong), tried), (None, []))
+    facts("what does not is tried", (ours.read(b"\2" + wrong[1:]), len(tried)), (None, 1))
+    facts("no nonce begins so", 3 in {new_nonce()[0] for _ in range(10_000)}, False)
 
 
 def test_tags(facts: Facts) -> None:

@@ -13,7 +13,7 @@ from live.constants import NEAR
 from live.digests import Digests
 from live.drawn import Drawn
 from live.heard import PATIENCE, PAUSE
-from live.joining import FETCH_AGAIN, FETCH_PAUSE, MANY
+from live.joining import FETCH_AGAIN, FETCH_PAUSE, LACKING, MANY, MOST_TRIED
 from live.judging import Judging
 from live.options import read_options
 from live.record import Record
@@ -291,7 +291,7 @@ def test_streams(facts: Facts) -> None:
     """A stream is taken of a member, if the host says so or holes are lacking that the host does not count; not too often."""
     one, begun = One(), []  # type: One, List[Origin]
     joining = one.judging.joining
-    joining.fetch = begun.append  # type: ignore[assignment]
+    joining.fetch = lambda origin, _: begun.append(origin)  # type: ignore[assignment]
     report: Any = datagram_of("session-message 9 77 7/1 1=600 " + " ".join("%d=1" % source for source in range(2, 70)), "")
     facts("of 64 marks, without ours, one number of each is lacking", joining.lacking(report), 63)
     one.drawn.add(Drawop(drawing(2, 1)))
@@ -311,6 +311,31 @@ def test_streams(facts: Facts) -> None:
     one.host.members("7 %s %d %d" % (Z.word, one.at, one.at))
     one.heed("session-message 7 77 7/1 2=502 1@5+10", Z)
     facts("but whenever the host says so", begun[3:], [Z])
+
+
+def test_streams_in_vain(facts: Facts) -> None:
+    """Of a member that has not what its marks leave room for, since a number was forged or left out, no second stream is taken, until it reports more."""
+    one, begun = One(), []  # type: One, List[Any]
+    joining = one.judging.joining
+    joining.fetch = lambda _, marks: begun.append(marks)  # type: ignore[assignment]
+    one.drawn.add(Drawop(drawing(900, 1_000)))
+
+    def streams(number: int, origin: Origin, high: int) -> int:
+        one.at += FETCH_AGAIN
+        one.meet(number, origin, " 900=%d" % high)
+        return len(begun)
+
+    facts("a member reports a number of which those below are lacking", streams(9, X, 1_000), 1)
+    joining.brought = LACKING
+    joining.note(begun[-1])
+    facts("the stream brought much, so another is taken", streams(9, X, 1_000), 2)
+    joining.brought = LACKING - 1
+    joining.note(begun[-1])
+    facts("that one brought little, so no more are", [streams(9, X, high) for high in (1_000, 1_000, 999 + LACKING)], [2, 2, 2])
+    facts("but of another member, and if it reports more", [streams(8, Y, 1_000), streams(9, X, 1_000 + LACKING)], [3, 4])
+    for source in range(MOST_TRIED):
+        joining.note({(9, PAGE, source): 5})
+    facts("what is remembered is bounded", len(joining.tried), MOST_TRIED)
 
 
 def test_time(facts: Facts) -> None:

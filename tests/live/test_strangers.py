@@ -154,6 +154,28 @@ def test_vouching(facts: Facts) -> None:
         facts("they end with 0", [each.end() for each in two], [0] * 2)
 
 
+def test_holes(facts: Facts) -> None:
+    """A stranger draws by great numbers, and leaves some out: that is dropped, so nobody asks or waits for those below."""
+    two = members(*["--speed 10"] * 2)
+    attackers = [Attacker(each.udp_port) for each in two]
+    try:
+        told: List[int] = []
+        for attacker in attackers:
+            attacker.send(*[drawn(900, number, now(), 9, b"h") for number in (2**32 - 1, 1_000, 1, 3)])
+        facts("both hold the first that he drew", comes(lambda: [count(each.states, PAGE) for each in two] == [1, 1], SOON), True)
+        end = time.monotonic() + WHILE
+        while time.monotonic() < end:
+            told += [each.states["health"]["missing"] for each in two]
+            time.sleep(0.1)
+        facts("nobody waits for more", set(told), {0})
+        asked = [entry["name"] for each in two for entry in each.entries if entry["way"] == "out" and entry["kind"] == "request"]
+        facts("nor asks for any", asked, [])
+        facts("both draw", [each.draw(PAGE, "line 0 0 4 0 d")[0] for each in two], [200, 200])
+        facts("and the other holds it", comes(lambda: [count(each.states, PAGE) for each in two] == [3, 3], SOON), True)
+    finally:
+        facts("they end with 0", [each.end() for each in two], [0] * 2)
+
+
 class Giver:
     """Gives whoever comes a stream of forged drawops, beside a port of the session."""
 

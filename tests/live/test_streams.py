@@ -10,7 +10,7 @@ import threading
 import time
 from pathlib import Path
 from types import SimpleNamespace
-from typing import Any, Iterator, List, Tuple
+from typing import Any, Iterator, List, Optional, Tuple
 
 import pytest
 
@@ -35,6 +35,9 @@ JOINED = 1_200
 # a link of so much: by it a stream comes in many parts
 LINK = "100mbit"
 SHAPED = "ip link set lo mtu 1500 && tc qdisc add dev lo root tbf rate %s burst 16kb latency 400ms" % LINK
+
+# marks for which a stream is taken
+MARKS = {(9, (1, 1), 7): 600}
 
 # bytes that a slow relay passes at a time, and the seconds between
 PIECE, PAUSE = 1_100, 0.0005
@@ -334,12 +337,14 @@ def test_accepting(facts: Facts) -> None:
 # ---- faults that are not the network's
 
 
-def joining(outcome: BaseException) -> Tuple[Joining, List[Any]]:
+def joining(outcome: Optional[BaseException]) -> Tuple[Joining, List[Any]]:
     """A stream that is handed in and has this outcome; and the faults that nobody caught."""
-    def result(_seconds: float) -> int:
-        raise outcome
+    def result(_seconds: float) -> None:
+        if outcome:
+            raise outcome
 
-    member = SimpleNamespace(people=SimpleNamespace(call=lambda *_: SimpleNamespace(result=result)), judging=SimpleNamespace(take_stream=None))
+    member = SimpleNamespace(people=SimpleNamespace(call=lambda *_: SimpleNamespace(result=result)), judging=SimpleNamespace(take_stream=None),
+                             inbox=SimpleNamespace(call=lambda call: call()))
     found: List[Any] = []
     made = Joining(member)  # type: ignore[arg-type]
     near, other = socket.socketpair()
@@ -349,7 +354,7 @@ def joining(outcome: BaseException) -> Tuple[Joining, List[Any]]:
     before, threading.excepthook = threading.excepthook, lambda told: found.append(told.exc_value)
     try:
         made.is_busy = True
-        thread = threading.Thread(target=made.join, args=(Streams(udp, None), Origin("9"), ("127.0.0.1", 1)))  # type: ignore[arg-type]
+        thread = threading.Thread(target=made.join, args=(Streams(udp, None), Origin("9"), ("127.0.0.1", 1), MARKS))  # type: ignore[arg-type]
         thread.start()
         thread.join(PATIENCE)
     finally:
@@ -369,7 +374,7 @@ def test_coming(facts: Facts) -> None:
     made, _ = joining(ConnectionResetError())
     facts("no stream comes", made.is_coming(), False)
     made.member = SimpleNamespace(streams=Streams(SimpleNamespace(is_there=lambda _: True, stream_to=waiting), None))  # type: ignore[arg-type, assignment]
-    made.fetch(Origin("9", address=("127.0.0.1", 1)))
+    made.fetch(Origin("9", address=("127.0.0.1", 1)), MARKS)
     facts("one that has begun, and has brought nothing, holds no request back", (made.is_busy, made.is_coming()), (True, False))
     told = []
     for new in (MANY - 1, MANY):
@@ -388,7 +393,9 @@ def test_faults(facts: Facts) -> None:
     for name, outcome, wanted in (("a busy member", Refused("busy"), 0), ("a network", ConnectionResetError(), 0), ("this program", ZeroDivisionError("ours"), 1)):
         made, found = joining(outcome)
         facts("of %s so many faults are told" % name, len(found), wanted)
-        facts("after a fault of %s another stream may be taken" % name, made.is_busy, False)
+        facts("after a fault of %s another stream may be taken, for the same" % name, (made.is_busy, made.tried), (False, {}))
+    made, found = joining(None)
+    facts("one that comes to its end, and brings nothing, was taken in vain", (found, made.is_busy, made.tried), ([], False, MARKS))
 
 
 @pytest.mark.inside

@@ -11,7 +11,7 @@ from live.drawn import Drawn
 from live.events import MOST_BYTES, MOST_CHANGES, NAMES, Events, Watcher, Whole
 from live.heard import Other
 from live.showing import Showing
-from live.telling import MOST_MEMBERS, MOST_SHOWINGS, Reported, Telling
+from live.telling import IN_VAIN, MOST_MEMBERS, MOST_REPORTED, MOST_SHOWINGS, Reported, Telling
 from live.views import Drawop
 from ..facts import Facts
 from .hosts import AtHost, PAGE as HOSTS_PAGE
@@ -90,6 +90,59 @@ def test_missing(facts: Facts) -> None:
     facts("what is not held is missing", reported.missing(PAGE, drawn), 1)
     drawn.add(Drawop(drawing(7, 1)))
     facts("and what is held is not, though nobody said so", reported.missing(PAGE, drawn), 0)
+
+
+def asking(source: int, seq: int) -> str:
+    """Our request for a drawop of the page, in hexadecimal."""
+    return "5742010300000014" + "%08x" * 5 % (1, source, *PAGE, seq)
+
+
+def test_awaited(facts: Facts) -> None:
+    """People wait for what members tell of: for no hole below what no member gave, and for nothing that was asked for in vain."""
+    one = Told()
+    one.inbox, one.streams = SimpleNamespace(bad=0, dropped=0, foreign=0, trouble=""), None  # type: ignore[attr-defined]
+
+    def missing() -> Any:
+        one.telling.tell_health()
+        return one.state("health")["missing"]
+
+    def given(source: int, seq: int, is_strange: bool = False) -> None:
+        one.drawn.add(Drawop(drawing(source, seq)))
+        one.board.strange |= {(source, PAGE, seq)} if is_strange else set()
+        one.telling.notice_fate((source, PAGE, seq), "new")
+
+    given(900, 2**32 - 1, is_strange=True)
+    facts("nothing is missing below a stranger's drawing", missing(), 0)
+    one.meet(more=" 900=4294967295")
+    facts("nor if a member has it too", missing(), 0)
+    for seq in (1, 5):
+        given(7, seq)
+    facts("three are below what a member gave", missing(), 3)
+    one.meet(more=" 7=9")
+    given(7, 1_000, is_strange=True)
+    facts("and one is told by its mark, also beside a stranger's of that number", missing(), 4)
+    for _ in range(2 * IN_VAIN):
+        one.judging.outgoing(asking(7, 2))
+    facts("while nobody is heard, it is waited for", missing(), 4)
+    for asked in range(1, IN_VAIN):
+        facts("asked %d times in vain" % asked, missing(), 4)
+        one.meet(more=" 7=9")
+        one.judging.outgoing(asking(7, 2))
+    facts("what nobody has is not waited for", missing(), 0)
+    given(8, 3)
+    facts("what another has is", missing(), 2)
+    given(7, 900, is_strange=True)
+    facts("no stranger's drawing changes that", missing(), 2)
+    given(7, 2)
+    facts("one that comes of a member does", missing(), 5)
+    one.judging.outgoing(asking(8, 1))
+    for _ in range(IN_VAIN):
+        one.meet(more=" 7=9")
+        one.judging.outgoing(asking(7, 3))
+    facts("nor is one waited for whose turn to be asked for has not come again", missing(), 0)
+    for page in range(2 * MOST_REPORTED):
+        one.telling.reported.ask((7, (9, page), 1))
+    facts("what is remembered is bounded", (len(one.telling.reported.asked), len(one.telling.reported.since)), (MOST_REPORTED, MOST_REPORTED))
 
 
 def test_showing(facts: Facts) -> None:

@@ -62,7 +62,7 @@ class Counting(Judging):
         super().__init__(member)
         self.dropped: "Counter[str]" = Counter()
         self.fetched: List[Origin] = []
-        self.joining.fetch = self.fetched.append  # type: ignore[assignment]
+        self.joining.fetch = lambda origin, _: self.fetched.append(origin)  # type: ignore[assignment]
 
     def heed(self, datagram: Datagram, digits: str, origin: Origin, sent: List[str]) -> Optional[str]:
         why = super().heed(datagram, digits, origin, sent)
@@ -110,8 +110,8 @@ class Virtual:
 
     # ---- what is asked of it
 
-    def draw(self, row: int) -> "Future[Any]":
-        drawing = self.member.people.draw(PAGE, "line 0 %d 9 %d *" % (row, row))
+    def draw(self, row: int, page: Tuple[int, int] = PAGE) -> "Future[Any]":
+        drawing = self.member.people.draw(page, "line 0 %d 9 %d *" % (row, row))
         for call in self.member.inbox.take(0)[0]:
             call()
         self.member.people.draw_all()
@@ -273,6 +273,27 @@ def beside_forged_pages(forged: int, longest: int = 240) -> AfterForgeries:
         return AfterForgeries(None, drawn_on)
 
 
+def beside_pages_of_a_member(pages: int, longest: int = 240) -> Optional[int]:
+    """A member draws on many pages, and all comes. Its last drawing is lost: after how many seconds it is there."""
+    with World(pages) as world:
+        members = [world.join(1), world.join(2)]
+        world.run(20)
+        world.loss = 0.0
+        for number in range(pages):
+            members[0].draw(1, (1, number + 2))
+            world.run(0.1)
+        while members[1].held() < pages:
+            world.run(10)
+        world.loss = 1.0
+        members[0].draw(1)
+        world.loss = LOSS
+        for second in range(1, longest + 1):
+            world.run(1)
+            if members[1].member.drawn.holds((1, PAGE, 1)):
+                return second
+        return None
+
+
 class Crowded(NamedTuple):
     """Which part of pairs know each other, and how many forged numbers each member took for one and dropped."""
 
@@ -382,6 +403,18 @@ def among_departed(drawops: int, newcomers: int, pages: int = 4, longest: int = 
         return Departed(whole, [dict(member.judging.dropped) for member in members], [len(member.judging.fetched) for member in members])
 
 
+def below_a_stranger(number: int) -> int:
+    """A stranger sends a drawop of that number, and none before it, to two members: how many requests these send in the minute after."""
+    with World(1) as world:
+        two = [world.join(each) for each in (1, 2)]
+        world.run(30)
+        before = sum(member.sent["request"] for member in two)
+        for member in two:
+            world.put(world.now, member, Origin("stranger"), drawn(900, number, WALL, 9, b"h", PAGE))
+        world.run(60)
+        return sum(member.sent["request"] for member in two) - before
+
+
 def asked_ahead(hours: int = 30) -> Tuple[int, "Counter[str]"]:
     """A member holds two drawops of a time so far ahead, which it reports: how often another asks for them in a minute, and why it dropped what came."""
     with tempfile.TemporaryDirectory() as folder, World(hours) as world:
@@ -430,6 +463,13 @@ def test_pages(facts: Facts) -> None:
     facts("and a drawing that was lost beside them is told", told.there is not None, True)
 
 
+def test_pages_of_a_member(facts: Facts) -> None:
+    """Of two reports one tells the page that changed last, so a loss there is soon told, however many pages there are."""
+    there = beside_pages_of_a_member(1_000)
+    print("beside 1,000 pages of a member a last drawing that was lost is there after %s s" % there)
+    facts.holds("a last drawing that was lost is there within 30 s", there is not None and there <= 30, there)
+
+
 def test_crowd(facts: Facts) -> None:
     """Numbers that speak first are few, and who answers finds room beside them."""
     told = beside_a_crowd(400)
@@ -474,6 +514,11 @@ def test_ahead(facts: Facts) -> None:
     print("two drawops that are 30 hours ahead are asked for %d times in a minute; dropped: %s" % (requests, dict(dropped)))
     facts("they are dropped for that alone", (list(dropped), dropped[WHYS["ahead"]] > 0), ([WHYS["ahead"]], True))
     facts.holds("and asked for, not too often", 0 < requests <= 4 * 60, requests)
+
+
+def test_left_out(facts: Facts) -> None:
+    """Nobody has what a stranger left out."""
+    facts("nobody asks for what a stranger left out", [below_a_stranger(number) for number in (2**32 - 1, 1_000, 2)], [0, 0, 0])
 
 
 def main(words: List[str]) -> None:

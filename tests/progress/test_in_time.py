@@ -159,7 +159,7 @@ def test_rounds() -> None:
 
 # what docs/PROGRESS.md tells in minutes of sessions in which two requests for a name were lost, by how many names one lacks: in crowds, if K is 2; of holes
 # alone; from T on, with A; and whatever A is
-TOLD = [(10, 4, 7, 12, 28), (1_000, 247, 478, 509, 2_057), (10_000, 2_453, 4_761, 5_017, 20_508)]
+TOLD = [(10, 4, 7, 13, 29), (1_000, 247, 478, 512, 2_158), (10_000, 2_453, 4_761, 5_048, 21_511)]
 
 
 @pytest.mark.parametrize("most, crowded, filled, topped, gained", TOLD)
@@ -170,7 +170,7 @@ def test_bounds_of_credit(most: int, crowded: int, filled: int, topped: int, gai
 
 
 # what docs/PROGRESS.md tells in hours of members of wb-live and the page after an outage, by how many names one lacks: with A, and whatever A is
-OUTLASTED = [(10, 37, 37), (1_000, 40, 57), (10_000, 69, 233)]
+OUTLASTED = [(10, 37, 37), (1_000, 40, 58), (10_000, 70, 250)]
 
 
 @pytest.mark.parametrize("most, hours, anyway", OUTLASTED)

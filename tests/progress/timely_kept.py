@@ -123,7 +123,7 @@ def request_span() -> int:
 def step(sizes: Sizes, soon: Soon) -> int:
     """For so long nothing new comes at most, while something is lacked that another holds."""
     span = soon.pause + LATE
-    asked_within = 21_000_000 + DRIFT + request_span() + sizes.slices * span + soon.turning + DELIVERY
+    asked_within = 21_000_000 + DRIFT + request_span() + 2 * sizes.slices * span + soon.turning + DELIVERY
     return span + asked_within + soon.gives * request_span() + REPAIRING
 
 
@@ -167,7 +167,7 @@ def filled_by(wait: int, most: int, waits: Waits, since: int = 0) -> int:
 def window_span(slices: int, soon: Soon, waits: Waits) -> int:
     """In so long a window a host that lacks the last number of a source hears of it, and gets it or asks for 64 names."""
     asking, answering, _ = spans(waits)
-    return PLACES * COST + DRIFT + LONGEST_GAP + LATE + 2 * slices * (soon.pause + LATE) + DELIVERY + 2 * asking + answering
+    return PLACES * COST + DRIFT + LONGEST_GAP + LATE + 4 * slices * (soon.pause + LATE) + DELIVERY + 2 * asking + answering
 
 
 def topped_by(wait: int, asks: int, slices: int, soon: Soon, waits: Waits) -> int:

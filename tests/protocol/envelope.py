@@ -52,7 +52,8 @@ class Seal:
     def close(self, data: bytes, more: bytes = b"", nonce: bytes = b"") -> bytes:
         if self.tags:
             return data + self.tag(data, more)
-        nonce = nonce or os.urandom(NONCE)
+        while not nonce or nonce[:1] == TAGGED:
+            nonce = os.urandom(NONCE)
         return nonce + bytes(self.cipher.encrypt(nonce, data, self.session + more))
 
     def open(self, closed: bytes, more: bytes = b"") -> Optional[bytes]:

@@ -18,7 +18,7 @@ HEARD, FRESH, GONE = 192 * SECOND, 256 * SECOND, 600 * SECOND
 UNKNOWN_DELAY, DELAY_LIMIT, HOLD_DOWNS = 100_000, 1 << 24, 3
 C1, C2, D1, D2 = 2, 2, 1, 1
 MOST_LEVEL, OLD_LEVEL = 16, 4
-MOST_TIMERS, MOST_MARKS, MOST_ECHOES, MOST_PAGES, STATE_BYTES = 64, 64, 32, 64, 534
+MOST_TIMERS, MOST_MARKS, MOST_ECHOES, MOST_FIRSTS, MOST_PAGES, STATE_BYTES = 64, 64, 32, 24, 64, 534
 FIRST_FORGED, MOST_ABOVE = 1 << 31, 65_537
 
 Report = Union[SessionMessage, PageState]
@@ -65,6 +65,7 @@ class Member:
         self.held_down: dict[Name, int] = {}
         self.delays: dict[int, int] = {}
         self.heard: dict[int, tuple[int, int]] = {}  # the moment that a member's last session message named, and when it came
+        self.echoed = 0  # the last number that had its turn among the echoes
         self.sent: dict[int, int] = {}  # the moments that its own named, and when it sent them
         self.has_twin = False
         self.members: dict[Hashable, int] = {}  # the origins that are members', and when something came from there
@@ -279,8 +280,20 @@ class Member:
             sent.append(report)
         return [codec.write(it) for it in sent]
 
+    def echoed_in_turn(self, now: int) -> list[int]:
+        """First those that have echoed us and are here, up to 24; the others have their turn, by number."""
+        here = [other for other, (_, came) in self.heard.items() if other != self.number and now - came < HEARD]
+
+        def turn(other: int) -> tuple[bool, bool, int]:
+            return other not in here, other <= self.echoed, other
+
+        firsts = sorted((other for other in here if other in self.delays), key=turn)[:MOST_FIRSTS]
+        rest = sorted(self.heard.keys() - {self.number, *firsts}, key=turn)[: MOST_ECHOES - len(firsts)]
+        self.echoed = max((other for other in rest if other in here), default=self.echoed)
+        return firsts + rest
+
     def report(self, now: int) -> SessionMessage:
-        """The rest of the page that was reported last, or else the next page, with the echoes of those that were heard last."""
+        """The rest of the page that was reported last, or else the next page, with its echoes."""
         page, last = self.reported
         left = [mark for mark in self.marks(page) if mark.source > last]
         if not left:
@@ -290,7 +303,7 @@ class Member:
         if left:
             self.reported = page, left[:MOST_MARKS][-1].source
         twin = [(other, it) for other, it in self.heard.items() if other == self.number and now - it[1] <= FRESH]
-        late = sorted((it for it in self.heard.items() if it[0] != self.number), key=lambda it: -it[1][1])[:MOST_ECHOES]
-        echoes = sorted(Echo(other, sent, now - came) for other, (sent, came) in late + twin)
+        others = [(other, self.heard[other]) for other in self.echoed_in_turn(now)]
+        echoes = sorted(Echo(other, sent, now - came) for other, (sent, came) in others + twin)
         self.sent[self.clock + now] = now
         return SessionMessage(self.number, self.clock + now, page, tuple(left[:MOST_MARKS]), tuple(echoes))

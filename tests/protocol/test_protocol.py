@@ -40,15 +40,15 @@ def line_of(data: bytes) -> str:
     return ("arrive " if data[3:4] == b"\x01" else "hear ") + data.hex()
 
 
-def script_of(page: Page, came: list[Drawop]) -> list[str]:
+def script_of(page: Page, came: list[Drawop], workers: int) -> list[str]:
     """The life of a member to which these drawops came, and what it is asked."""
     asked_of = f"{page.creator} {page.number}"
-    return ["board 1 1000 1 1", *(line_of(codec.write(it)) for it in came), f"show {asked_of} {WIDTH} {HEIGHT}", f"report {asked_of}", f"gaps {asked_of}", f"digest {asked_of}"]
+    return [f"board 1 1000 {workers} 1", *(line_of(codec.write(it)) for it in came), f"show {asked_of} {WIDTH} {HEIGHT}", f"report {asked_of}", f"gaps {asked_of}", f"digest {asked_of}"]
 
 
-def told_by_program(page: Page, came: list[Drawop]) -> dict[str, object]:
+def told_by_program(page: Page, came: list[Drawop], workers: int = 1) -> dict[str, object]:
     """The rows, the marks and what is missing. One line answers a script's arrivals."""
-    lines = iter(asked(["run"], script_of(page, came))[1:])
+    lines = iter(asked(["run"], script_of(page, came, workers))[1:])
     rows = [next(lines) for _ in range(HEIGHT)]
     marks = [next(lines) for _ in range(int(next(lines).split()[1]))]
     ranges = [list(map(int, next(lines).split())) for _ in range(int(next(lines).split()[1]))]
@@ -88,9 +88,11 @@ def test_mutants() -> None:
 
 @pytest.mark.parametrize("number", range(PAGES))
 def test_page(number: int) -> None:
-    """It is the same by the program."""
+    """It is the same by the program; and by eight workers, which read each other's rows, if each name comes once: of two drawops either may come first."""
     page, came = random_values.session(random_of(f"page {number}"))
-    assert told_by_program(page, came) == told_here(page, came)
+    here = told_here(page, came)
+    assert told_by_program(page, came) == here
+    assert told_by_program(page, painting.held(came), 8) == here
 
 
 def vectors(file: str, kind: str, name: str) -> list[Any]:

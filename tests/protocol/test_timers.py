@@ -253,8 +253,10 @@ def test_strangers() -> None:
 
 
 def test_many_echoes() -> None:
-    """Of the 32 that were heard last, and of a twin besides."""
+    """Of 32 members, in turn, and of a twin besides; whoever has echoed us is among them each time."""
     member = silent(1)
     for number in range(1, 42):
         member.come(number, codec.write(codec.SessionMessage(number, 9, PAGE, (), ())))
-    assert [it.source for it in member.report(99).echoes] == [1, *range(10, 42)]
+    assert [it.source for it in member.report(99).echoes] == [1, *range(2, 34)]
+    member.delays[30] = 20_000
+    assert [it.source for it in member.report(99).echoes] == [1, *range(2, 25), 30, *range(34, 42)]

@@ -111,6 +111,7 @@ NOT_DATAGRAMS = [
     # lists
     (changed(TWO_MARKS, 30, "0000000a"), 9, "marks of falling sources"),
     (changed(SessionMessage(8, 0, FIRST, (), (Echo(7, 0, 0), Echo(9, 0, 0))), 32, "0000000a"), 9, "echoes of falling sources"),
+    (changed(SessionMessage(8, 0, FIRST, (), (Echo(7, 0, 0), Echo(9, 0, 0))), 32, "00000009"), 9, "two echoes of one source"),
     (changed(TWO_MARKS, 34, "00000000"), 8, "a mark of 0"),
 ]
 
@@ -120,6 +121,7 @@ NOT_WORDS = [(line, fault) for fault, lines in {
     "word 2: missing": ["request"],
     "word 2: number": ["request  8 7 7/4 2", "request 08 7 7/4 2", "request +8 7 7/4 2", "request 4294967296 7 7/4 2"],
     "word 4: page": ["request 8 7 7 4 2", "request 8 7 7/ 2", "request 8 7 7/4/1 2"],
+    "word 4: sequence number 0": ["draw 7 7/1 0 10 line 0 1 4 1 *"],
     "word 5: sequence number 0": ["request 8 7 7/4 0", "request 8 7 7/4 0 9", "session-message 8 0 7/4 7=0"],
     "word 5: number": ["draw 7 7/1 1 18446744073709551616 line 0 1 4 1 *"],
     "word 6: one too many": ["request 8 7 7/4 2 "],

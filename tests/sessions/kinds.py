@@ -8,10 +8,12 @@ they answer one `view`, whatever kinds they are of, and no name means two drawop
 from __future__ import annotations
 
 from dataclasses import dataclass, field
+from pathlib import Path
 
 from wbhost import Block, Host
 
 from ..host import datagrams
+from .by_library import HostByBytes
 from .restarts import DRAWOP, MEMBERS, NAME, PAGES, STRANGER, Fault, Member, Restarts
 
 KINDS = ("driven", "self-managing", "judged")
@@ -24,16 +26,17 @@ FORGED = datagrams.page_bytes(ELSEWHERE).hex()
 
 @dataclass
 class Mixed(Member):
-    """A member whose program is of one kind, and of another after its next start."""
+    """A member whose program is of one kind, and of another after its next start. With a library what manages itself is there, by its bytes."""
 
     kind: str = "driven"
+    library: Path | None = None
     drawn: dict[tuple[int, int], int] = field(default_factory=dict)  # the greatest number under which it drew on a page
 
     def start(self) -> list[Block]:
         if self.starts:
             self.host.end()
         self.starts += 1
-        self.host = Host(self.path)
+        self.host = HostByBytes(self.library, self.kind == "judged") if self.library and self.kind != "driven" else Host(self.path)
         self.ask([f"board {self.number} {self.cells} 1 {self.number * 1000 + self.starts}", f"tick {self.moment}"])
         if self.kind == "self-managing":
             self.ask(["keep 4000 1"])
@@ -61,15 +64,17 @@ class Mixed(Member):
         return f"add {self.moment} {place} {drawing}" if self.kind == "judged" else f"add {self.moment} {time} {place} {drawing}"
 
 
+@dataclass
 class Kinds(Restarts):
     """A session of members of three kinds."""
 
+    library: Path | None = None
     forged_page = ELSEWHERE
 
     def __post_init__(self) -> None:
         super().__post_init__()
         cells = self.random.choice((100, 400))
-        self.mixed = {number: Mixed(self.path, number, cells, kind=kind) for number, kind in zip(MEMBERS, KINDS)}
+        self.mixed = {number: Mixed(self.path, number, cells, kind=kind, library=self.library) for number, kind in zip(MEMBERS, KINDS)}
         self.members = {**self.mixed}
         self.senders: dict[str, int] = {}  # who sent a datagram last
         self.reporters: dict[tuple[str, ...], set[str]] = {}  # the kinds of hosts that told a report without gaps

@@ -13,6 +13,7 @@ from dataclasses import dataclass, field
 from wbhost import Block, Host, HostEnded
 
 from ..host import datagrams
+from .by_library import HostByBytes
 
 MEMBERS = (1, 2, 3)
 PAGES = ((1, 0), (2, 7))
@@ -38,7 +39,7 @@ class Member:
     moment: int = 1
     record: list[str] = field(default_factory=list)
     starts: int = 0
-    host: Host = field(init=False)
+    host: Host | HostByBytes = field(init=False)
 
     def start(self) -> list[Block]:
         """Starts a self-managing host, which listens for a microsecond, and gives it the record: the blocks of that."""

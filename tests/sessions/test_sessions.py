@@ -1,7 +1,9 @@
 """Sessions over a bad network: of hosts whose drivers look and report, of self-managing hosts that start anew from their records, and of hosts
-of all kinds."""
+of all kinds, by lines and by the library's bytes."""
 
 from __future__ import annotations
+
+from pathlib import Path
 
 import pytest
 
@@ -40,6 +42,14 @@ def test_careless_records_show_what_goes_wrong(seed: int) -> None:
 @pytest.mark.parametrize("seed", SEEDS[: len(SEEDS) // 2])
 def test_kinds(seed: int) -> None:
     session = Kinds(program(), seed)
+    assert not fault_of(session)
+    assert session.kinds_that_agreed() > 1 and session.starts() > len(session.members), "hosts of two kinds never agreed, or nobody started anew"
+
+
+@pytest.mark.parametrize("seed", SEEDS[: len(SEEDS) // 4])
+def test_kinds_by_bytes(library: Path, seed: int) -> None:
+    """What manages itself is in the library, and hears, draws, waits and answers by bytes; driven hosts are of the program."""
+    session = Kinds(program(), seed, library=library)
     assert not fault_of(session)
     assert session.kinds_that_agreed() > 1 and session.starts() > len(session.members), "hosts of two kinds never agreed, or nobody started anew"
 

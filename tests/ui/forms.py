@@ -36,6 +36,12 @@ def both(one: Sheet, other: Sheet, forms: list[list[object]]) -> bool | Missed:
     return one.page.wait(f"{FORMS} === {wanted} && !wb.session.waiting.size") and other.page.wait(f"{FORMS} === {wanted}")
 
 
+def drag(anna: Sheet, *way: Point) -> None:
+    """Moves a handle of what is selected. What was changed is another item, whose handles are there once that is selected."""
+    anna.page.until("wb.hand.chosenItems().length === 1 && !wb.session.waiting.size && !wb.painter.isPlanned")
+    draw(anna, at(anna, *way))
+
+
 def test_shapes(tally: Tally, anna: Sheet, tom: Sheet) -> None:
     anna.keys("i")
     anna.press("#style [aria-label=full]")
@@ -49,14 +55,13 @@ def test_shapes(tally: Tally, anna: Sheet, tom: Sheet) -> None:
     anna.press("#style [aria-label='heads at both ends']")
     anna.keys("v")
     anna.page.click(*at(anna, (350, 250))[0])
-    anna.page.until("wb.hand.chosenItems().length === 1")
-    draw(anna, at(anna, (400, 250), (400, 280), (400, 310)))
+    drag(anna, (400, 250), (400, 280), (400, 310))
     tally.check("it is bent by its middle", both(anna, tom, [["d", 2, 2], ["l", 3, 3]]), anna.page.value(FORMS))
     bend = "wb.ink.items[1].points.map(({ x, y }) => [Math.round(x * wb.view.wide / 64 - wb.view.corner()[0]), Math.round(y * wb.view.wide / 64 - wb.view.corner()[1])])"
     tally.check("which is where the hand put it", tom.page.value(f"JSON.stringify({bend})") == "[[300,250],[500,250],[400,310]]", str(tom.page.value(bend)))
-    draw(anna, at(anna, (400, 310), (400, 280), (400, 251)))
+    drag(anna, (400, 310), (400, 280), (400, 251))
     tally.check("and straight again", both(anna, tom, [["d", 2, 2], ["l", 3, 2]]), anna.page.value(FORMS))
-    draw(anna, at(anna, (500, 250), (500, 220), (480, 180)))
+    drag(anna, (500, 250), (500, 220), (480, 180))
     tally.check("an end is moved alone", tom.page.wait(f"JSON.stringify({bend}) === '[[300,250],[480,180]]'"), str(tom.page.value(bend)))
     anna.page.key("a", CONTROL)
     anna.press("#chosen-delete")
@@ -131,9 +136,10 @@ def test_letters(tally: Tally, anna: Sheet, tom: Sheet) -> None:
     anna.keys("t")
     anna.page.click(*at(anna, (600, 420))[0])
     anna.page.until("document.activeElement === wb.typing.box")
-    anna.page.call("Input.insertText", text=f"{ARABIC}\n{ARABIC} {ARABIC}\nabc")
+    letters = f"{ARABIC}\n{ARABIC} {ARABIC}\nabc"
+    anna.page.call("Input.insertText", text=letters)
     anna.page.key("Enter")
-    tom.page.until("wb.ink.items.length === 3 && wb.ink.items[2].letters.endsWith('abc')")
+    tom.page.until(f"wb.ink.items.length === 3 && wb.ink.items[2].letters === {json.dumps(letters)}")
     left, right = tom.page.value(f"{EXTENTS}(wb.ink.items[2])")
     tally.check("lines from right to left end at the right, and others at the left", abs(right[0] - right[1]) < 6 and abs(left[1] - left[2]) < 30 and left[0] > left[1] + 100, f"{left} {right}")
 

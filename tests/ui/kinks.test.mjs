@@ -14,7 +14,7 @@ const { Pen } = await import('../../live/ui/pen.js');
 /** Units of a point of the screen at 100 %, points of it that a piece is long, and degrees that are a kink. */
 const UNITS = 6.4, PIECE = 3, KINK = 6;
 
-const RATES = [60, 120], SEEDS = [1, 2];
+const RATES = [60, 120], SEEDS = [1, 2], MORE_SEEDS = [1, 2, 3, 4];
 
 /** How a screen tells a point: on the nearest whole one, as browsers tell a mouse; on the one before, as WebKit does; or between them, as of a finger. */
 const ROUNDS = { nearest: Math.round, before: Math.floor, between: (n) => n };
@@ -58,19 +58,33 @@ const CLOSE = { 'a small o': [ring(300, 300, 14), 150],
   loops: [measured((t) => ({ x: 200 + 300 * t + 26 * Math.cos(12 * Math.PI * t), y: 400 + 36 * Math.sin(12 * Math.PI * t) })), 350] };
 const CLOSELY = 15;
 
-const CORNERS = { 'a square': [[[200, 200], [320, 200], [320, 320], [200, 320], [200, 200]], 300], 'a V': [[[200, 200], [260, 330], [320, 200]], 400] };
+/** Letters of hands, by how high they are in millimetres: a hand writes five of their heights a second. */
+const MILLIMETRE = 96 / 25.4, HEIGHTS = [3, 5, 7, 10], LETTERS = {
+  circle: (high) => ring(300, 300, high / 2),
+  o: (high) => measured((t) => ({ x: 300 + 0.42 * high * Math.cos(2 * Math.PI * t), y: 300 + 0.5 * high * Math.sin(2 * Math.PI * t) })),
+  c: (high) => measured((t) => ({ x: 300 + 0.5 * high * Math.cos(0.7 + 5 * t), y: 300 - 0.5 * high * Math.sin(0.7 + 5 * t) })),
+};
+
+/** Degrees that one of them may have more than its hand in the middle of all tellings. All together have less than a kink. */
+const SMALL = 6.5;
+
+const letter = (name, millimetres) => [LETTERS[name](millimetres * MILLIMETRE), 5 * millimetres * MILLIMETRE];
+
+const CORNERS = { 'a square': [[[200, 200], [320, 200], [320, 320], [200, 320], [200, 200]], 300], 'a V': [[[200, 200], [260, 330], [320, 200]], 400],
+  'a small square': [[[200, 200], [218, 200], [218, 218], [200, 218], [200, 200]], 80, 50], 'a small V': [[[200, 200], [206, 218], [212, 200]], 60] };
 
 const chanceOf = (seed) => () => {
   seed = (Math.imul(seed, 1664525) + 1013904223) >>> 0;
   return seed / 2 ** 32;
 };
 
-/** What a screen tells of a hand, in points of it, with the milliseconds. */
-function told([{ long, at }, speed], rate, rounds, seed) {
-  const chance = chanceOf(seed), many = Math.max(3, Math.ceil((long / speed) * rate)), off = () => chance() - 0.5;
+/** What a screen tells of a hand, in points of it, with the milliseconds: of one that trembles by up to half a point, or only by what the screen is off. */
+function told([{ long, at }, speed], rate, rounds, seed, trembles = true) {
+  const chance = chanceOf(seed), many = Math.max(3, Math.ceil((long / speed) * rate)), off = () => (trembles || rounds === ROUNDS.between ? chance() - 0.5 : 0);
+  const [aside, down] = trembles ? [0, 0] : [chance(), chance()];
   return Array.from({ length: many + 1 }, (_, i) => {
     const { x, y } = at((long * i) / many);
-    return { x: rounds(x + off()), y: rounds(y + off()), time: (1000 * i) / rate };
+    return { x: rounds(x + aside + off()) - aside, y: rounds(y + down + off()) - down, time: (1000 * i) / rate };
   });
 }
 
@@ -137,20 +151,22 @@ function kinkOf(line, [{ long, at }]) {
   return worst;
 }
 
-/** The worst kink of a hand in all ways of telling it, and the texts that it takes at most. */
-function worstOf(hand, kind = 's', shown = lineOf) {
-  let [worst, most] = [0, 0];
-  for (const rate of RATES) {
-    for (const rounds of Object.values(ROUNDS)) {
-      for (const seed of SEEDS) {
-        const { items, texts } = penned(told(hand, rate, rounds, seed), kind);
-        check('it is one item', items.length, 1);
-        [worst, most] = [Math.max(worst, kinkOf(shown(items[0]), hand)), Math.max(most, texts)];
-      }
-    }
-  }
-  return { worst, most };
+/** The worst kinks of a hand in all ways of telling it, from the least on, and the texts that it takes at most. */
+function kinksOf(hand, kind = 's', shown = lineOf, seeds = SEEDS, trembles = true) {
+  const all = RATES.flatMap((rate) => Object.values(ROUNDS).flatMap((rounds) => seeds.map((seed) => penned(told(hand, rate, rounds, seed, trembles), kind))));
+  all.forEach(({ items }) => check('it is one item', items.length, 1));
+  return { kinks: all.map(({ items }) => kinkOf(shown(items[0]), hand)).sort((a, b) => a - b), texts: Math.max(...all.map(({ texts }) => texts)) };
 }
+
+function worstOf(hand, kind = 's', shown = lineOf) {
+  const { kinks, texts } = kinksOf(hand, kind, shown);
+  return { worst: kinks.at(-1), texts };
+}
+
+/** Of a small letter the kinks of all tellings, from the least on. */
+const smallOf = (name, millimetres) => kinksOf(letter(name, millimetres), 's', lineOf, MORE_SEEDS, false).kinks;
+
+const middle = (kinks) => kinks[kinks.length >> 1];
 
 const isBelow = (name, { worst }, most) => check(`${name}: ${worst.toFixed(1)} degrees`, worst < most, true);
 
@@ -165,7 +181,13 @@ function turnAbout(line, [x, y]) {
 if (process.argv[2] === 'rows') {
   for (const [name, hand] of Object.entries({ ...HANDS, ...CLOSE })) {
     const even = worstOf(hand), lively = worstOf(hand, 'v', sideOf);
-    console.log(`${name}: ${even.worst.toFixed(1)} degrees, ${even.most} texts; by speed ${lively.worst.toFixed(1)}, ${lively.most}`);
+    console.log(`${name}: ${even.worst.toFixed(1)} degrees, ${even.texts} texts; by speed ${lively.worst.toFixed(1)}, ${lively.texts}`);
+  }
+  for (const high of HEIGHTS) {
+    for (const name of Object.keys(LETTERS)) {
+      const kinks = smallOf(name, high);
+      console.log(`${name} of ${high} mm: ${middle(kinks).toFixed(1)} degrees, at most ${kinks.at(-1).toFixed(1)}`);
+    }
   }
 } else {
   test('no kink that the hand had not', () => {
@@ -175,11 +197,18 @@ if (process.argv[2] === 'rows') {
   test('nor has the outline of a stroke that is thinner where it is fast', () => {
     for (const name of ['a circle', 'an S', 'a fast flick']) isBelow(name, worstOf(HANDS[name], 'v', sideOf), KINK);
   });
+  test('nor has a small letter, in the middle of its tellings', () => {
+    for (const high of HEIGHTS) {
+      const letters = Object.keys(LETTERS).map((name) => [name, smallOf(name, high)]);
+      for (const [name, kinks] of letters) isBelow(`${name} of ${high} mm`, { worst: middle(kinks) }, SMALL);
+      isBelow(`letters of ${high} mm`, { worst: middle(letters.flatMap(([, kinks]) => kinks).sort((a, b) => a - b)) }, KINK);
+    }
+  });
   test('corners that the hand made stay', () => {
-    for (const [name, [corners, speed]] of Object.entries(CORNERS)) {
+    for (const [name, [corners, speed, degrees = 60]] of Object.entries(CORNERS)) {
       const hand = [straight(...corners), speed], inner = corners.slice(1, -1);
       const least = Math.min(...RATES.flatMap((rate) => SEEDS.flatMap((seed) => inner.map((corner) => turnAbout(lineOf(penned(told(hand, rate, Math.round, seed)).items[0]), corner)))));
-      check(`${name}: turns by ${least.toFixed(0)} degrees`, least > 60, true);
+      check(`${name}: turns by ${least.toFixed(0)} degrees`, least > degrees, true);
     }
   });
   test('a hand that goes faster draws thinner, and a long stroke ends in points', () => {

@@ -15,6 +15,9 @@ export class Sheet {
     /** The greatest number of each source.
      * @type {Map<number, number>} */
     this.tops = new Map();
+    /** How many of each source.
+     * @type {Map<number, number>} */
+    this.counts = new Map();
     /** The least time of its drawops, and the greatest of what was drawn or restored. */
     this.begun = Infinity;
     this.last = 0;
@@ -33,6 +36,7 @@ export class Sheet {
     if (drawop.operation[0] !== 'delete') this.last = Math.max(this.last, drawop.time);
     if (!isDrawing(drawop)) this.aimed.set(aimedBy(drawop), [...this.aimed.get(aimedBy(drawop)) ?? [], drawop]);
     this.tops.set(source, Math.max(seq, this.tops.get(source) ?? 0));
+    this.counts.set(source, 1 + (this.counts.get(source) ?? 0));
     return true;
   }
 
@@ -131,6 +135,21 @@ export class Drawn {
   missing(page) {
     const sheet = this.pages.get(page);
     return sheet ? [...sheet.tops.values()].reduce((sum, top) => sum + top, 0) - sheet.drawops.size : 0;
+  }
+
+  /** Of each source the greatest number of a page that is none of these names, and how many below it are missing.
+   * @param {string} page @param {Set<string>} strange
+   * @returns {Map<number, { top: number, many: number }>} */
+  gaps(page, strange) {
+    const { tops, counts, drawops } = this.sheet(page), gaps = new Map([...tops].map(([source, top]) => [source, { top, many: top - (counts.get(source) ?? 0) }]));
+    /** @type {Map<number, number[]>} */
+    const held = new Map([...tops].filter(([source, top]) => strange.has(`${source} ${page} ${top}`)).map(([source]) => [source, []]));
+    if (held.size) for (const { source, seq } of drawops.values()) held.get(source)?.push(seq);
+    for (const [source, numbers] of held) {
+      const top = numbers.filter((seq) => !strange.has(`${source} ${page} ${seq}`)).reduce((most, seq) => Math.max(most, seq), 0);
+      gaps.set(source, { top, many: top - numbers.filter((seq) => seq <= top).length });
+    }
+    return gaps;
   }
 
   /** @returns {Drawop[]} */

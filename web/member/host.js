@@ -81,7 +81,7 @@ export class Answer {
 const DONE = 0, WAITS = 1, CLOSED = 3, MEMORY = 4, NOTHING = 6, NO_DATAGRAM = 100, NO_OPERATION = 200;
 
 /** Why a judged host drops what came, and what it warns of, by their numbers from 1 and in the words of its lines. */
-const DROPS = ['datagram', 'own', 'speaks', 'crowd', 'mark', 'stranger', 'flood', 'again', 'ahead', 'full', 'share', 'pages'];
+const DROPS = ['datagram', 'own', 'speaks', 'crowd', 'mark', 'stranger', 'flood', 'again', 'ahead', 'full', 'share', 'pages', 'holes'];
 const WARNINGS = ['speaks', 'mark', 'twin', 'full', 'share'];
 
 /** Why a call was refused, by its status, as a line of the same meaning says it. */

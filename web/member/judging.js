@@ -13,7 +13,7 @@ import { drawopOf } from './views.js';
 const WHY = /** @type {Record<string, string>} */ ({
   again: 'it would hush us', ahead: 'ahead of the clock', crowd: 'too many new members', datagram: 'no datagram', flood: 'too many requests or questions',
   full: 'the board is full', mark: 'a mark of ours', own: 'under our number', share: 'over the share of strangers', speaks: 'under the number of another',
-  pages: 'strangers are on too many pages, or too many numbers', stranger: 'a stranger asks for what is not held',
+  holes: 'a stranger left numbers out', pages: 'strangers are on too many pages, or too many numbers', stranger: 'a stranger asks for what is not held',
 });
 
 /** What a host warns people of, by its word, and the datagram's speaker. That another has our number telling.js tells as long as it is so.
@@ -138,7 +138,10 @@ export class Judging {
   /** A datagram of ours of this size in bytes goes out.
    * @param {Datagram | null} datagram @param {number} size */
   goes(datagram, size) {
-    if (datagram?.kind === 'request') this.tails.asked(this.member.board.moment);
+    if (datagram?.kind === 'request') {
+      this.tails.asked(this.member.board.moment);
+      this.member.telling.reported.ask(datagram.name);
+    }
     if (datagram?.kind !== 'session-message') return;
     this.patience = Math.max(GONE_AFTER, GONE_AFTER_REPORTS * this.interval(size));
     this.count();

@@ -49,7 +49,7 @@ export class Seal {
 
   /** Closed bytes: a nonce and then the ciphertext, or the bytes and then their tag.
    * @param {Uint8Array} plain @param {Uint8Array} [iv] the nonce, which is random */
-  async close(plain, iv = crypto.getRandomValues(new Uint8Array(NONCE))) {
+  async close(plain, iv = newNonce()) {
     if (this.tags) return joined(plain, await this.tagOf(plain));
     return joined(iv, new Uint8Array(await crypto.subtle.encrypt({ name: 'AES-GCM', iv, additionalData: this.more }, this.key, plain)));
   }
@@ -63,8 +63,10 @@ export class Seal {
   /** What closed bytes have, and how they are closed, or null where they were not closed by this key for this session.
    * @param {Uint8Array} closed */
   async open(closed) {
-    const plain = closed[0] === TAGGED && closed.length > TAG ? closed.subarray(0, -TAG) : null;
-    if (plain && isSame(await this.tagOf(plain), closed.subarray(-TAG))) return { plain, kind: TAGGED };
+    if (closed[0] === TAGGED) {
+      const plain = closed.subarray(0, -TAG);
+      return isSame(await this.tagOf(plain), closed.subarray(-TAG)) ? { plain, kind: TAGGED } : null;
+    }
     try {
       const how = { name: 'AES-GCM', iv: closed.subarray(0, NONCE), additionalData: this.more };
       return { plain: new Uint8Array(await crypto.subtle.decrypt(how, this.key, closed.subarray(NONCE))), kind: SEALED };
@@ -72,6 +74,13 @@ export class Seal {
       return null;
     }
   }
+}
+
+/** One that does not begin as a tagged envelope does.
+ * @returns {Uint8Array} */
+function newNonce() {
+  const nonce = crypto.getRandomValues(new Uint8Array(NONCE));
+  return nonce[0] === TAGGED ? newNonce() : nonce;
 }
 
 /** @param {Uint8Array[]} parts */
@@ -93,6 +102,11 @@ const isSame = (one, other) => one.reduce((differs, byte, i) => differs | (byte 
 
 /** Bytes of an envelope before the datagram: its kind, the tag of a start, and the counter. */
 const BEFORE = 17;
+
+/** Whether bytes begin as a datagram, a pointer or a last will does that no key closed: nothing is tried on those, since that costs more than all else.
+ * @param {Uint8Array} bytes */
+const isPlain = ([first, second, third, fourth]) => first === 87 && (
+  second === 66 ? [1, 2].includes(third) && fourth >= 1 && fourth <= 5 : [71, 80].includes(second) && third === 1 && fourth === 0);
 
 /** A tag that no other start has: sixteen letters, of a number below 2^63. */
 export const newTag = () => BigInt.asUintN(63, crypto.getRandomValues(new BigUint64Array(1))[0]).toString(16).padStart(16, '0');
@@ -136,13 +150,20 @@ export class Counters {
     this.tags = new Map();
   }
 
+  /** Whether a counter came, or is far below the greatest of its tag.
+   * @param {string} tag @param {bigint} counter */
+  hasCome(tag, counter) {
+    const counted = this.tags.get(tag), below = counted ? counted.top - counter : -1n;
+    return below > BELOW || (counted !== undefined && below >= 0n && ((counted.came >> below) & 1n) === 1n);
+  }
+
   /** Whether a counter is new for its tag. It is not new again.
    * @param {string} tag @param {bigint} counter */
   takes(tag, counter) {
-    const counted = this.tags.get(tag) ?? { top: counter - 1n, came: 0n }, ahead = counter - counted.top;
-    if (ahead <= 0n && (ahead < -BELOW || (counted.came >> -ahead) & 1n)) return false;
+    if (this.hasCome(tag, counter)) return false;
+    const counted = this.tags.get(tag) ?? { top: counter - 1n, came: 0n };
     this.tags.delete(tag);
-    this.tags.set(tag, after(counted, ahead));
+    this.tags.set(tag, after(counted, counter - counted.top));
     if (this.tags.size > MOST_TAGS) this.tags.delete([...this.tags.keys()][0]);
     return true;
   }
@@ -176,9 +197,12 @@ export class Sealed {
     return this.under?.here ?? null;
   }
 
-  /** @param {Uint8Array} sealed @param {Origin} origin */
+  /** What costs least is looked at first. Of a tagged datagram the tag of its start and the counter stand in the open: if it came, nothing else tells more.
+   * @param {Uint8Array} sealed @param {Origin} origin */
   async take(sealed, { owner }) {
-    const opened = await this.seal.open(sealed), told = opened && readEnvelope(opened.plain, opened.kind);
+    const mayBeClosed = sealed.length >= BEFORE + TAG && !isPlain(sealed), shown = mayBeClosed && readEnvelope(sealed, TAGGED);
+    if (shown && this.counters.hasCome(shown.tag, shown.counter)) return;
+    const opened = mayBeClosed ? await this.seal.open(sealed) : null, told = opened && readEnvelope(opened.plain, opened.kind);
     if (!told) this.foreign += 1;
     else if (told.tag !== this.tag && this.counters.takes(told.tag, told.counter)) this.hand(told.bytes, originOf(told.tag, owner));
   }

@@ -3,7 +3,7 @@
 import { COLUMNS } from './board.js';
 import { Reported } from './reported.js';
 import { Showing } from './showing.js';
-import { erasedFieldsOf, fieldsOf, orderOfPages } from './views.js';
+import { erasedFieldsOf, fieldsOf, nameOf, orderOfPages } from './views.js';
 
 /** @typedef {import('./views.js').Drawop} Drawop */
 
@@ -160,6 +160,7 @@ export class Telling {
    * @param {string} page @param {[number, number][]} marks */
   notice(page, marks) {
     const { me, drawn } = this.member;
+    this.reported.reports += 1;
     for (const [source, seq] of marks.slice(0, MARKS)) {
       if (source !== me && !drawn.holds(page, `${source} ${page} ${seq}`)) this.reported.tell({ source, page, seq });
     }
@@ -168,8 +169,8 @@ export class Telling {
   /** What became of a drawop, in the word of the host.
    * @param {import('./views.js').Name} name @param {string} fate */
   noticeFate(name, fate) {
-    const { alarms } = this.member, { source } = name;
-    if (fate === 'new') this.reported.come(name);
+    const { alarms, board } = this.member, { source } = name;
+    if (fate === 'new') this.reported.come(name, board.strange.has(nameOf(name)));
     else if (fate === 'clash') alarms.warn(`two members draw with number ${source}: what they drew differs from member to member`);
     else if (fate === 'full') alarms.warn('the board is full: new drawops are not kept');
   }
@@ -214,7 +215,7 @@ export class Telling {
   }
 
   tellHealth() {
-    const { page, drawn, wire, inbox, board, transport } = this.member, missing = this.reported.missing(page, drawn);
+    const { page, drawn, wire, inbox, board, transport } = this.member, missing = this.reported.awaited(page, drawn, board.strange);
     if (missing) this.missing.add(page);
     else if (this.missing.delete(page)) this.caughtUp.set(page, board.now());
     const { dropped, bad } = inbox, told = wire.counts;

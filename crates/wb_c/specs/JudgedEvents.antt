@@ -48,6 +48,7 @@ why_number whys.Ahead = 9
 why_number whys.Full = 10
 why_number whys.Share = 11
 why_number whys.Pages = 12
+why_number whys.Holes = 13
 
 abbrev pub warning_number : Warning → ℕ
 warning_number (warnings.Impostor number) = 1

@@ -30,6 +30,7 @@ fn why_number(why: Why) -> u32
         Why::Full => 10,
         Why::Share => 11,
         Why::Pages => 12,
+        Why::Holes => 13,
     }
 }
 

@@ -61,7 +61,11 @@ next_line n = codes "next " ++ (decimal n ++ codes "\n")
 abbrev pub digest_line : List ℕ → List ℕ
 digest_line bytes = codes "digest " ++ (encode_lower bytes ++ codes "\n")
 
--- What is printed for an answer. That no number is left has no text.
+-- That no number is left has no text.
+abbrev pub next_text : Option ℕ → Option (List ℕ)
+next_text number = option_map next_line number
+
+-- what is printed for an answer
 abbrev pub answer_text : Told → Option (List ℕ)
 answer_text (told.canvas text) = Some text
 answer_text (told.gaps ranges) = Some (gaps_text ranges)
@@ -69,5 +73,5 @@ answer_text (told.report marks) = Some (report_text marks)
 answer_text (told.pages all) = Some (pages_text all)
 answer_text (told.view drawops) = Some (view_text drawops)
 answer_text (told.known all) = Some (known_pages_text all)
-answer_text (told.next number) = option_map next_line number
+answer_text (told.next number) = next_text number
 answer_text (told.digest bytes) = Some (digest_line bytes)

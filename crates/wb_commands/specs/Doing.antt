@@ -5,10 +5,40 @@ use Rattle.wb_keeper.specs.declared.keep_fault.KeepFault.{KeepFault}
 use Rattle.wb_keeper.specs.declared.keep_fault.KeepFault.TheVariants as keeping
 use Rattle.wb_member.specs.Holding.{MemberValue, IsOpenAt}
 use Rattle.wb_member.specs.Opened.{Opened}
+use Rattle.wb_member.specs.Questions.{told}
 use Rattle.wb_commands.specs.declared.fault.LineFault.TheVariants as faults
 use Rattle.wb_commands.specs.declared.fault.Untaken.{Untaken}
 use Rattle.wb_commands.specs.declared.fault.Untaken.TheVariants as untaken
+use Rattle.wb_commands.specs.declared.told.Told.{Told}
+use Rattle.wb_commands.specs.declared.told.Told.TheVariants.{Nothing, Done, Answer}
 use Rattle.wb_commands.specs.Acts.{Act, does, fails}
+use Rattle.wb_commands.specs.Answers.{answer_text}
+use Rattle.wb_commands.specs.SentLines.{done_text}
+
+-- the text of what a line comes to
+abbrev pub Says : Told → List ℕ → Type 0
+Says Nothing text = text ≡ []
+Says (Done done) text = text ≡ done_text done.sent.items done.found
+Says (Answer answer) text = answer_text (told answer) ≡ Some text
+
+-- A question comes to this text; or it is refused, if it has none.
+abbrev pub TellsAnswer : Result Told Untaken → Option (List ℕ) → Type 0
+TellsAnswer (Ok said) (Some text) = Says said text
+TellsAnswer (Ok said) None = ⊥
+TellsAnswer (Err e) (Some text) = ⊥
+TellsAnswer (Err e) None = e ≡ untaken.Line faults.TooMany
+
+-- It does what a line is to do there, and answers what that is to print; it refuses the line, and stays; or memory ran out.
+abbrev pub Comes : Opened → MemberValue → Result Told Untaken → Act → Type 0
+Comes host new (Ok said) (does next text) = IsOpenAt new next × Says said text
+Comes host new (Ok said) (fails e) = ⊥
+Comes host new (Err (untaken.Line f)) (does next text) = ⊥
+Comes host new (Err (untaken.Line f)) (fails e) = (f ≡ e) × IsOpenAt new host
+Comes host new (Err untaken.Memory) a = Unit {0}
+
+-- The same at each host at which a member was.
+abbrev pub ComesFrom : MemberValue → MemberValue → Result Told Untaken → (Opened → Act) → Type 0
+ComesFrom old new result act = (host : Opened) → IsOpenAt old host → Comes host new result (act host)
 
 -- what is printed for a line
 abbrev pub printed : Act → List ℕ
@@ -27,14 +57,6 @@ DoesAct host new written (Err untaken.Memory) a = BeginsWith (printed a) written
 abbrev pub DoesAt : {U : Type 0} → MemberValue → MemberValue → List ℕ → List ℕ → Result U Untaken → (Opened → Act) → Type 0
 DoesAt old new before after result act =
     (written : List ℕ) × (after ≡ before ++ written) × ((host : Opened) → IsOpenAt old host → DoesAct host new written result (act host))
-
--- The text of an answer is printed after what waits; if it has none, that is refused; or memory ran out, and nothing is printed.
-abbrev pub PrintsAnswer : {U : Type 0} → List ℕ → List ℕ → Result U Untaken → Option (List ℕ) → Type 0
-PrintsAnswer before after (Ok u) (Some text) = after ≡ before ++ text
-PrintsAnswer before after (Ok u) None = ⊥
-PrintsAnswer before after (Err (untaken.Line e)) (Some text) = ⊥
-PrintsAnswer before after (Err (untaken.Line e)) None = (e ≡ faults.TooMany) × (after ≡ before)
-PrintsAnswer before after (Err untaken.Memory) text = after ≡ before
 
 -- why a line is not taken, if a member refuses it with a fault
 abbrev pub untaken_by : KeepFault → Untaken

@@ -1,21 +1,19 @@
-//! The lines that answer questions, and the counts of a batch.
-ghost use Rattle.std.specs.Prelude.{◌≡◌, ◌∷◌, [], IfOk};
+//! The lines that answer questions, the counts of a batch, and what a line comes to.
+ghost use Rattle.std.specs.Prelude.{◌≡◌, ◌∷◌, [], ℕ, List, IfOk, Some};
 ghost use Rattle.std.specs.String.{string_bytes};
 ghost use Rattle.wb_names.specs.Arrivals.{counts, counts_of};
 ghost use Rattle.wb_member.specs.Holding.{outcome_in};
 ghost use Rattle.wb_member.specs.Questions.{told};
-ghost use Rattle.wb_commands.specs.Answers.{answer_text, batch_line, digest_line, gaps_text, known_pages_text, next_line, pages_text, report_text, view_text, drawop_line};
-ghost use Rattle.wb_commands.specs.Doing.{PrintsAnswer};
+ghost use Rattle.wb_commands.specs.Answers.{answer_text, batch_line, digest_line};
+ghost use Rattle.wb_commands.specs.Doing.{Says};
 
-use crate::fault::{LineFault, Untaken};
-use crate::listing::list_text;
+use crate::listing::counted_text;
+use crate::sent_lines::done_text;
+use crate::told::Told;
 use std::alloc::{AllocError, Global};
 use wb_board::Reply;
-use wb_codec::Datagram;
-use wb_lines::Output;
+use wb_display::Canvas;
 use wb_member::Answer;
-use wb_names::{Drawop, Gap, Mark, PageId};
-use wb_words::write_words;
 
 /// The line that ends a batch: how many of its drawops were fresh, held already, clashed with one
 /// of their name, and were left for want of a cell.
@@ -43,61 +41,13 @@ pub fn arrival_line(became: Option<Reply>) -> &'static [u8]
     }
 }
 
-/// How many missing ranges there are, and a line for each: its source, its first number and its
-/// last.
-fn gaps_text(alloc: Global, gaps: &[Gap]) -> Result<String, AllocError>
-    ensures { IfOk result (λ text. string_bytes text ≡ gaps_text gaps.now) }
+/// A canvas.
+fn canvas_text(alloc: Global, canvas: &Canvas) -> Result<Vec<u8>, AllocError>
+    ensures { IfOk result (λ text. text.items ≡ canvas.now) }
 {
-    list_text(alloc, "gaps ", gaps)
-}
-
-/// How many marks there are, and a line for each: its source and its number.
-fn report_text(alloc: Global, marks: &[Mark]) -> Result<String, AllocError>
-    ensures { IfOk result (λ text. string_bytes text ≡ report_text marks.now) }
-{
-    list_text(alloc, "report ", marks)
-}
-
-/// How many pages there are, and a line for each: its creator and its number.
-fn pages_text(alloc: Global, pages: &[PageId]) -> Result<String, AllocError>
-    ensures { IfOk result (λ text. string_bytes text ≡ pages_text pages.now) }
-{
-    list_text(alloc, "pages ", pages)
-}
-
-/// How many pages are known, and a line for each.
-fn known_text(alloc: Global, pages: &[PageId]) -> Result<String, AllocError>
-    ensures { IfOk result (λ text. string_bytes text ≡ known_pages_text pages.now) }
-{
-    list_text(alloc, "known ", pages)
-}
-
-/// A drawop in words, with a line feed.
-fn words_line(alloc: Global, drawop: &Drawop) -> Result<Vec<u8>, AllocError>
-    ensures { IfOk result (λ line. line.items ≡ drawop_line drawop.now) }
-{
-    let mut line = write_words(alloc, &Datagram::Draw(*drawop))?;
-    line.push(b'\n')?;
-    Ok(line)
-}
-
-/// How many drawops a page shows, and each in words.
-fn view_text(alloc: Global, drawops: &[Drawop]) -> Result<Vec<u8>, AllocError>
-    ensures { IfOk result (λ text. text.items ≡ view_text drawops.now) }
-{
-    let count = drawops.len();
-    let mut text = format!(in alloc; "view {count}\n")?.into_bytes();
-    for drawop in drawops {
-        text.extend_from_slice(words_line(alloc, drawop)?.as_slice())?;
-    }
+    let mut text = Vec::new(alloc);
+    text.extend_from_slice(canvas.bytes())?;
     Ok(text)
-}
-
-/// The number of the next drawop on a page.
-fn next_line(alloc: Global, number: u32) -> Result<String, AllocError>
-    ensures { IfOk result (λ text. string_bytes text ≡ next_line number) }
-{
-    format!(in alloc; "next {number}\n")
 }
 
 /// The digest of a page, in hexadecimal.
@@ -108,21 +58,32 @@ fn digest_line(alloc: Global, bytes: [u8; 32]) -> Result<String, AllocError>
     format!(in alloc; "digest {digits}\n")
 }
 
-/// Prints an answer. Refused with `TooMany`, if no number is left. Unless it is printed, nothing
-/// is.
-pub fn print(alloc: Global, answer: &Answer, output: &mut Output) -> Result<(), Untaken>
-    ensures { PrintsAnswer output.old output.new result (answer_text (told answer.now)) }
+/// The text of an answer. That no number is left has none.
+fn answer_text(alloc: Global, answer: &Answer) -> Result<Vec<u8>, AllocError>
+    ensures { IfOk result (λ written. (text : List ℕ) →
+        answer_text (told answer.now) ≡ Some text → written.items ≡ text) }
 {
     match answer {
-        Answer::Canvas(canvas) => output.add(canvas.bytes())?,
-        Answer::Gaps(gaps) => output.add(gaps_text(alloc, gaps)?.as_bytes())?,
-        Answer::Report(marks) => output.add(report_text(alloc, marks.as_slice())?.as_bytes())?,
-        Answer::Pages(pages) => output.add(pages_text(alloc, pages)?.as_bytes())?,
-        Answer::View(drawops) => output.add(view_text(alloc, drawops)?.as_slice())?,
-        Answer::Known(pages) => output.add(known_text(alloc, pages)?.as_bytes())?,
-        Answer::Next(Some(number)) => output.add(next_line(alloc, *number)?.as_bytes())?,
-        Answer::Digest(bytes) => output.add(digest_line(alloc, *bytes)?.as_bytes())?,
-        Answer::Next(None) => return Err(Untaken::Line(LineFault::TooMany)),
+        Answer::Canvas(canvas) => canvas_text(alloc, canvas),
+        Answer::Gaps(gaps) => counted_text(alloc, "gaps ", gaps),
+        Answer::Report(marks) => counted_text(alloc, "report ", marks.as_slice()),
+        Answer::Pages(pages) => counted_text(alloc, "pages ", pages),
+        Answer::View(drawops) => counted_text(alloc, "view ", drawops),
+        Answer::Known(pages) => counted_text(alloc, "known ", pages),
+        Answer::Next(Some(number)) => Ok(format!(in alloc; "next {number}\n")?.into_bytes()),
+        Answer::Digest(bytes) => Ok(digest_line(alloc, *bytes)?.into_bytes()),
+        Answer::Next(None) => Ok(Vec::new(alloc)),
     }
-    Ok(())
+}
+
+/// The text of what a line comes to.
+pub fn told_text(alloc: Global, told: &Told) -> Result<Vec<u8>, AllocError>
+    ensures { IfOk result (λ written. (text : List ℕ) → Says told.now text →
+        written.items ≡ text) }
+{
+    match told {
+        Told::Nothing => Ok(Vec::new(alloc)),
+        Told::Done(done) => Ok(done_text(alloc, done)?.into_bytes()),
+        Told::Answer(answer) => answer_text(alloc, answer),
+    }
 }

@@ -1,11 +1,10 @@
 //! Lines that tell what a host sends, and what it finds.
-ghost use Rattle.std.specs.Prelude.{◌≡◌, ◌++◌, IfOk, OnOk, OnErr};
+ghost use Rattle.std.specs.Prelude.{◌≡◌, IfOk};
 ghost use Rattle.std.specs.String.{string_bytes};
 ghost use Rattle.wb_commands.specs.SentLines.{ask_line, done_text, found_text, send_line, sends_text, stop_line};
 
 use std::alloc::{AllocError, Global};
 use wb_codec::{Datagram, write};
-use wb_lines::Output;
 use wb_member::{Done, Found};
 
 /// The line of a datagram that is sent, with its bytes in hexadecimal.
@@ -17,7 +16,8 @@ pub fn send_line(alloc: Global, datagram: &Datagram) -> Result<String, AllocErro
     format!(in alloc; "send {digits}\n")
 }
 
-fn sends_text(alloc: Global, sent: &[Datagram]) -> Result<String, AllocError>
+/// The datagrams that are sent, a line each, with their bytes in hexadecimal.
+pub fn sends_text(alloc: Global, sent: &[Datagram]) -> Result<String, AllocError>
     ensures { IfOk result (λ text. string_bytes text ≡ sends_text sent.now) }
 {
     let mut text = String::new(alloc);
@@ -25,15 +25,6 @@ fn sends_text(alloc: Global, sent: &[Datagram]) -> Result<String, AllocError>
         text.push_str(send_line(alloc, datagram)?.as_str())?;
     }
     Ok(text)
-}
-
-/// Prints the datagrams that are sent, a line each, with their bytes in hexadecimal. Without memory
-/// it prints none of them.
-pub fn print_sends(alloc: Global, sent: &[Datagram], output: &mut Output) -> Result<(), AllocError>
-    ensures ok { OnOk result (output.new ≡ output.old ++ sends_text sent.now) }
-    ensures err { OnErr result (output.new ≡ output.old) }
-{
-    output.add(sends_text(alloc, sent)?.as_bytes())
 }
 
 /// Whether it begins to miss a name.
@@ -62,14 +53,12 @@ fn found_text(alloc: Global, found: Found) -> Result<String, AllocError>
     }
 }
 
-/// Prints what a call of a member answers: what is sent, and what it finds. Without memory it prints
-/// nothing.
-pub(crate) fn print_done(alloc: Global, done: &Done, output: &mut Output) -> Result<(), AllocError>
-    ensures ok { OnOk result
-        (output.new ≡ output.old ++ done_text done.now.sent.items done.now.found) }
-    ensures err { OnErr result (output.new ≡ output.old) }
+/// What a call of a member answers: what is sent, and what it finds.
+pub(crate) fn done_text(alloc: Global, done: &Done) -> Result<String, AllocError>
+    ensures { IfOk result (λ text.
+        string_bytes text ≡ done_text done.now.sent.items done.now.found) }
 {
     let mut text = sends_text(alloc, &done.sent)?;
     text.push_str(found_text(alloc, done.found)?.as_str())?;
-    output.add(text.as_bytes())
+    Ok(text)
 }

@@ -13,9 +13,9 @@ use Rattle.wb_dialog.specs.declared.line.DriverLine.{DriverLine}
 use Rattle.wb_dialog.specs.declared.line.DriverLine.TheVariants.{Keep}
 use Rattle.wb_dialog.specs.Boards.{BoardValue}
 use Rattle.wb_dialog.specs.Dialog as plain
-use Rattle.wb_dialog.specs.Dialog.{Answer, gives, refuses, answer, answer_at, answer_first, answer_of, block, says_line, answered_lines}
+use Rattle.wb_dialog.specs.Dialog.{Answer, gives, refuses, answer, answer_of, block, says_line, answered_lines}
 use Rattle.wb_dialog.specs.Hosting as hosting
-use Rattle.wb_dialog.specs.Hosting.{Host, Driven, Reply, prints, denies, as_driven, driven_host, reply, reply_of, block_of, board_after, board_in}
+use Rattle.wb_dialog.specs.Hosting.{Reply, as_driven, driven_host, reply, reply_of, block_of, board_after, board_in}
 use Rattle.wb_dialog.specs.Laws.{BeginsNoKeep, DrivenAsBefore}
 
 -- ---- one line

@@ -8,9 +8,6 @@ begins_all text = ([], sym (append-nil text))
 pub begins_empty : (text : List ℕ) → BeginsWith text []
 begins_empty text = (text, refl)
 
-pub begins_within : (text rest front : List ℕ) → BeginsWith text front → BeginsWith (text ++ rest) front
-begins_within text rest front b = (b.0 ++ rest, ap (λ (x : List ℕ). x ++ rest) b.1 ∙ append_assoc front b.0 rest)
-
 pub begins_behind : (text rest front : List ℕ) → BeginsWith rest front → BeginsWith (text ++ rest) (text ++ front)
 begins_behind text rest front b = (b.0, ap (λ (x : List ℕ). text ++ x) b.1 ∙ sym (append_assoc text front b.0))
 

@@ -12,13 +12,12 @@ use Rattle.wb_recovery.specs.declared.limits.TheConstants.{UNKNOWN_DELAY}
 use Rattle.wb_member.specs.Opened.{Opened, becomes, has_room_for, present}
 use Rattle.wb_member.specs.declared.calls.Call.TheVariants as calls
 use Rattle.wb_member.proofs.KeptBoards.{calls_keep_boards}
-use Rattle.wb_policy.specs.Choices.{last_heard}
 use Rattle.wb_policy.specs.Delays.{bounded}
 use Rattle.wb_policy.specs.Policy.{Policy, after_wanting}
 use Rattle.wb_policy.specs.Reports.{slice_after}
 use Rattle.wb_policy.specs.Wanting.{is_wanted}
 use Rattle.wb_keeping.specs.Calls.{Added, Came, KeptLine, Ticked, Tuned, doing_of, fault_of}
-use Rattle.wb_keeping.specs.Kept.{Doing, Line, Arrives, Says, drawing, ends_full, hears, state_of, still, timed, want, Calls, drew}
+use Rattle.wb_keeping.specs.Kept.{Doing, Line, Arrives, Says, drawing, ends_full, hears, state_of, still, timed, want, Calls, drew, report_echoes}
 use Rattle.wb_keeping.specs.Performing.{Keeping, after_doing, after_line, after_lines, after_saying, said, said_where, sees, sent_by_line, view_of}
 use Rattle.wb_keeping.specs.Views.{View, holds, is_full, is_known, level}
 use Rattle.wb_keeping.proofs.EachLine.{DoesEach, Each, OfPolicy, ends_each, hears_each, then_each, timed_each, wanted_each}
@@ -142,7 +141,7 @@ steps_go = record {
     beats = λ k due. rests k _;
     answers = λ k is. record { at = refl; drive = states_drive (view_of k.host) (take 64 (pages_of k.host.is.held)) k.host refl };
     asks_pages = λ k is. one_line _ k _ (λ own. says_drives (datagrams.AskPages k.host.is.number) k.host refl);
-    reports = λ page until told k is. record { at = refl; drive = (λ own. says_drives (datagrams.Session k.host.is.number (present k.host) page (slice_after told (report_of k.host.is.held page)) (last_heard (view_of k.host).echoes)) k.host refl, tt) };
+    reports = λ page then told k is. record { at = refl; drive = (λ own. says_drives (datagrams.Session k.host.is.number (present k.host) page (slice_after told (report_of k.host.is.held page)) (report_echoes (view_of k.host) k.policy)) k.host refl, tt) };
   };
   ticks = λ now k later. one_line (Calls (calls.Tick now)) k k.policy (λ own. tick_drives now k.host later);
   arrives = λ d k free. one_line (Arrives d) k k.policy (λ own. (refl, refl));

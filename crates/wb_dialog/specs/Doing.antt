@@ -19,12 +19,14 @@ use Rattle.wb_dialog.specs.declared.fault.Unanswered.{Unanswered}
 use Rattle.wb_dialog.specs.declared.fault.Unanswered.TheVariants as unanswered
 use Rattle.wb_dialog.specs.declared.fault.HostFault.{HostFault}
 use Rattle.wb_dialog.specs.declared.fault.HostFault.TheVariants as host_faults
+use Rattle.wb_dialog.specs.declared.told.Told.{Told}
 use Rattle.wb_dialog.specs.declared.opened.Host.{Host as HostValue}
 use Rattle.wb_dialog.specs.declared.opened.Host.TheVariants as values
 use Rattle.wb_dialog.specs.Dialog.{Answer, gives, refuses}
 use Rattle.wb_dialog.specs.Boards.{BoardValue}
 use Rattle.wb_dialog.specs.Hosting.{Host, Driven, Kept, Reply, prints, denies, kept_refusal}
 use Rattle.wb_dialog.specs.Judged.{Act, does, fails, drawn_target, judged_refusal}
+use Rattle.wb_dialog.specs.Inside.Told.{Says}
 use Rattle.wb_dialog.specs.Kinds.{Kind, unjudged, judged, Response, answers, rejects, Standing, block_of, kind_after}
 
 -- The constants of the timers, and the host, once its board is open.
@@ -38,38 +40,31 @@ Adds before after holds = (written : List ℕ) × (after ≡ before ++ written) 
 
 -- ---- a member whose driver judges
 
--- a text is printed, and then nothing is left to print of what an answer prints before its block is closed
+-- the text of an answer before its block is closed
 abbrev pub text_of : Answer → List ℕ
 text_of (gives s text) = text
 text_of (refuses e) = []
 
--- From a host on, it does what a line is to do and prints its text; it refuses the line, and stays; or memory ran out
--- within the text.
-abbrev pub DoesAnswer : {U : Type 0} → Option Opened → Option MemberValue → List ℕ → Result U Unanswered → Answer → Type 0
-DoesAnswer s new written (Ok u) (gives t text) = MayBeOpenAt new t × (written ≡ text)
-DoesAnswer s new written (Ok u) (refuses e) = ⊥
-DoesAnswer s new written (Err (unanswered.Refused f)) (gives t text) = ⊥
-DoesAnswer s new written (Err (unanswered.Refused f)) (refuses e) = (f ≡ e) × MayBeOpenAt new s × (written ≡ [])
-DoesAnswer s new written (Err unanswered.Memory) a = BeginsWith (text_of a) written
+-- From a host on, it does what a line is to do, and has what that is to print; it refuses the line, and stays; or memory ran out.
+abbrev pub DoesAnswer : Option Opened → Option MemberValue → Result Told Unanswered → Answer → Type 0
+DoesAnswer s new (Ok told) (gives t text) = MayBeOpenAt new t × Says told text
+DoesAnswer s new (Ok told) (refuses e) = ⊥
+DoesAnswer s new (Err (unanswered.Refused f)) (gives t text) = ⊥
+DoesAnswer s new (Err (unanswered.Refused f)) (refuses e) = (f ≡ e) × MayBeOpenAt new s
+DoesAnswer s new (Err unanswered.Memory) a = Unit {0}
 
 -- The same at each host at which an open member was.
-abbrev pub DoesAt : {U : Type 0} → MemberValue → MemberValue → List ℕ → Result U Unanswered → (Opened → Answer) → Type 0
-DoesAt old new written result answer = (host : Opened) → IsOpenAt old host → DoesAnswer (Some host) (Some new) written result (answer host)
+abbrev pub DoesAt : MemberValue → MemberValue → Result Told Unanswered → (Opened → Answer) → Type 0
+DoesAt old new result answer = (host : Opened) → IsOpenAt old host → DoesAnswer (Some host) (Some new) result (answer host)
 
 -- It printed a text; or memory ran out, and it printed a front of it.
 abbrev pub Prints : {U E : Type 0} → List ℕ → Result U E → List ℕ → Type 0
 Prints written (Ok u) text = written ≡ text
 Prints written (Err e) text = BeginsWith text written
 
--- The same of code that refuses nothing.
-abbrev pub Tells : {U : Type 0} → List ℕ → Result U Unanswered → List ℕ → Type 0
-Tells written (Ok u) text = written ≡ text
-Tells written (Err (unanswered.Refused e)) text = ⊥
-Tells written (Err unanswered.Memory) text = BeginsWith text written
-
 -- the board of a driven host after a line, unless that was not taken
-abbrev pub board_by : {U : Type 0} → Result U Unanswered → Option BoardValue → Option BoardValue → Option BoardValue
-board_by (Ok u) board later = later
+abbrev pub board_by : Result Told Unanswered → Option BoardValue → Option BoardValue → Option BoardValue
+board_by (Ok told) board later = later
 board_by (Err e) board later = board
 
 -- ---- a host without a judge
@@ -93,21 +88,17 @@ abbrev pub text_in : Reply → List ℕ
 text_in (prints s text) = text
 text_in (denies e) = []
 
--- From a host on, it does what a line is to do and prints its text; it refuses the line, and stays; or memory ran out
--- within the text.
-abbrev pub DoesReply : {U : Type 0} → Option Host → Option HostValue → List ℕ → Result U Unanswered → Reply → Type 0
-DoesReply s new written (Ok u) (prints t text) = MayBeAt new t × (written ≡ text)
-DoesReply s new written (Ok u) (denies e) = ⊥
-DoesReply s new written (Err (unanswered.Refused f)) (prints t text) = ⊥
-DoesReply s new written (Err (unanswered.Refused f)) (denies e) = (f ≡ e) × MayBeAt new s × (written ≡ [])
-DoesReply s new written (Err unanswered.Memory) r = BeginsWith (text_in r) written
+-- From a host on, it does what a line is to do, and has what that is to print; it refuses the line, and stays; or memory ran out.
+abbrev pub DoesReply : Option Host → Option HostValue → Result Told Unanswered → Reply → Type 0
+DoesReply s new (Ok told) (prints t text) = MayBeAt new t × Says told text
+DoesReply s new (Ok told) (denies e) = ⊥
+DoesReply s new (Err (unanswered.Refused f)) (prints t text) = ⊥
+DoesReply s new (Err (unanswered.Refused f)) (denies e) = (f ≡ e) × MayBeAt new s
+DoesReply s new (Err unanswered.Memory) r = Unit {0}
 
--- The same at each host at which one was that is open, and at each at which one was, once a board was opened.
-abbrev pub DoesOpen : {U : Type 0} → HostValue → HostValue → List ℕ → Result U Unanswered → (Host → Reply) → Type 0
-DoesOpen old new written result reply = (h : Host) → IsHostAt old h → DoesReply (Some h) (Some new) written result (reply h)
-
-abbrev pub DoesHost : {U : Type 0} → Option HostValue → Option HostValue → List ℕ → Result U Unanswered → (Option Host → Reply) → Type 0
-DoesHost old new written result reply = (s : Option Host) → MayBeAt old s → DoesReply s new written result (reply s)
+-- The same at each host at which one was that is open.
+abbrev pub DoesOpen : HostValue → HostValue → Result Told Unanswered → (Host → Reply) → Type 0
+DoesOpen old new result reply = (h : Host) → IsHostAt old h → DoesReply (Some h) (Some new) result (reply h)
 
 -- why a line is not done, by why a self-managing member does not do it, and by where the target of a drawing stands
 abbrev pub unanswered_of : ℕ → KeptFault → Unanswered
@@ -115,8 +106,8 @@ unanswered_of place (kept_faults.Host keep_faults.Memory) = unanswered.Memory
 unanswered_of place fault = unanswered.Refused (kept_refusal place fault)
 
 -- The same at each host at which a self-managing member was.
-abbrev pub DoesKept : {U : Type 0} → KeptValue → KeptValue → List ℕ → Result U Unanswered → (Keeping → Reply) → Type 0
-DoesKept old new written result reply = (k : Keeping) → IsKeptAt old k → DoesReply (Some (Kept k)) (Some (values.Kept new)) written result (reply k)
+abbrev pub DoesKept : KeptValue → KeptValue → Result Told Unanswered → (Keeping → Reply) → Type 0
+DoesKept old new result reply = (k : Keeping) → IsKeptAt old k → DoesReply (Some (Kept k)) (Some (values.Kept new)) result (reply k)
 
 -- ---- a judged member
 
@@ -125,27 +116,18 @@ abbrev pub unanswered_by_judged : JudgedFault → Unanswered
 unanswered_by_judged (judged_faults.Kept fault) = unanswered_of drawn_target fault
 unanswered_by_judged (judged_faults.Judge fault) = unanswered.Refused (judged_refusal (judged_faults.Judge fault))
 
--- a text that an act prints
-abbrev pub acted_text : Act → List ℕ
-acted_text (does h text) = text
-acted_text (fails e) = []
-
--- From a judged member on, the code does what a line is to do and prints its text; it refuses the line, and stays; or memory ran out
--- within the text.
-abbrev pub DoesAct : {U : Type 0} → Judged → JudgedValue → List ℕ → Result U Unanswered → Act → Type 0
-DoesAct h new written (Ok u) (does next text) = IsJudgedAt new next × (written ≡ text)
-DoesAct h new written (Ok u) (fails e) = ⊥
-DoesAct h new written (Err (unanswered.Refused f)) (does next text) = ⊥
-DoesAct h new written (Err (unanswered.Refused f)) (fails e) = (f ≡ e) × IsJudgedAt new h × (written ≡ [])
-DoesAct h new written (Err unanswered.Memory) a = BeginsWith (acted_text a) written
-
--- It printed nothing, and this is why.
-abbrev pub IsUndone : {U : Type 0} → List ℕ → Result U Unanswered → Unanswered → Type 0
-IsUndone written result why = (result ≡ Err why) × (written ≡ [])
+-- From a judged member on, it does what a line is to do, and has what that is to print; it refuses the line, and stays; or memory
+-- ran out.
+abbrev pub DoesAct : Judged → JudgedValue → Result Told Unanswered → Act → Type 0
+DoesAct h new (Ok told) (does next text) = IsJudgedAt new next × Says told text
+DoesAct h new (Ok told) (fails e) = ⊥
+DoesAct h new (Err (unanswered.Refused f)) (does next text) = ⊥
+DoesAct h new (Err (unanswered.Refused f)) (fails e) = (f ≡ e) × IsJudgedAt new h
+DoesAct h new (Err unanswered.Memory) a = Unit {0}
 
 -- The same at each judged member at which the code was.
-abbrev pub DoesJudged : {U : Type 0} → JudgedValue → JudgedValue → List ℕ → Result U Unanswered → (Judged → Act) → Type 0
-DoesJudged old new written result act = (h : Judged) → IsJudgedAt old h → DoesAct h new written result (act h)
+abbrev pub DoesJudged : JudgedValue → JudgedValue → Result Told Unanswered → (Judged → Act) → Type 0
+DoesJudged old new result act = (h : Judged) → IsJudgedAt old h → DoesAct h new result (act h)
 
 -- ---- a host of any kind
 
@@ -158,27 +140,21 @@ abbrev pub IsKindAt : Option HostValue → Kind → Type 0
 IsKindAt v (unjudged s) = MayBeAt v s
 IsKindAt v (judged h) = IsJudgedHost v h
 
--- the text of a response before its block is closed
-abbrev pub told_in : Response → List ℕ
-told_in (answers s text) = text
-told_in (rejects e) = []
-
--- From a host on, it does what a line is to do and prints its text; it refuses the line, and stays; or memory ran out
--- within the text.
-abbrev pub Leads : {U : Type 0} → Kind → Option HostValue → List ℕ → Result U Unanswered → Response → Type 0
-Leads s new written (Ok u) (answers t text) = IsKindAt new t × (written ≡ text)
-Leads s new written (Ok u) (rejects e) = ⊥
-Leads s new written (Err (unanswered.Refused f)) (answers t text) = ⊥
-Leads s new written (Err (unanswered.Refused f)) (rejects e) = (f ≡ e) × IsKindAt new s × (written ≡ [])
-Leads s new written (Err unanswered.Memory) r = BeginsWith (told_in r) written
+-- From a host on, it does what a line is to do, and has what that is to print; it refuses the line, and stays; or memory ran out.
+abbrev pub Leads : Kind → Option HostValue → Result Told Unanswered → Response → Type 0
+Leads s new (Ok told) (answers t text) = IsKindAt new t × Says told text
+Leads s new (Ok told) (rejects e) = ⊥
+Leads s new (Err (unanswered.Refused f)) (answers t text) = ⊥
+Leads s new (Err (unanswered.Refused f)) (rejects e) = (f ≡ e) × IsKindAt new s
+Leads s new (Err unanswered.Memory) r = Unit {0}
 
 -- The same at each host at which one was.
-abbrev pub LeadsFrom : {U : Type 0} → Option HostValue → Option HostValue → List ℕ → Result U Unanswered → (Kind → Response) → Type 0
-LeadsFrom old new written result response = (s : Kind) → IsKindAt old s → Leads s new written result (response s)
+abbrev pub LeadsFrom : Option HostValue → Option HostValue → Result Told Unanswered → (Kind → Response) → Type 0
+LeadsFrom old new result response = (s : Kind) → IsKindAt old s → Leads s new result (response s)
 
 -- So it is at an open host, whatever the constants of the timers of a board that would be opened.
-abbrev pub LeadsOpen : {U : Type 0} → HostValue → HostValue → List ℕ → Result U Unanswered → (Tuning → Kind → Response) → Type 0
-LeadsOpen old new written result response = (tuning : Tuning) → LeadsFrom (Some old) (Some new) written result (response tuning)
+abbrev pub LeadsOpen : HostValue → HostValue → Result Told Unanswered → (Tuning → Kind → Response) → Type 0
+LeadsOpen old new result response = (tuning : Tuning) → LeadsFrom (Some old) (Some new) result (response tuning)
 
 -- It wrote a block, or memory ran out within it.
 abbrev pub Blocks : {U E : Type 0} → Option HostValue → List ℕ → Result U E → Kind → Response → Type 0

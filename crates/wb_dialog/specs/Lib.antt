@@ -9,6 +9,7 @@ pub mod Hosting
 pub mod Texts
 pub mod Listing
 pub mod Judged
+pub mod Inside
 pub mod Kinds
 pub mod Doing
 pub mod Laws

@@ -75,6 +75,7 @@ why_word whys.Ahead = codes "ahead"
 why_word whys.Full = codes "full"
 why_word whys.Share = codes "share"
 why_word whys.Pages = codes "pages"
+why_word whys.Holes = codes "holes"
 
 abbrev pub fate_word : Fate → List ℕ
 fate_word fates.New = codes "new"

@@ -1,39 +1,30 @@
-//! What the lines of a driver do at an open member.
-ghost use Rattle.std.specs.Prelude.{◌≡◌, ◌++◌, OnOk, OnErr};
-ghost use Rattle.wb_member.specs.Holding.{outcome_in};
+//! What the lines of a driver do at an open member, and what they come to.
+ghost use Rattle.std.specs.Prelude.{◌≡◌};
 ghost use Rattle.wb_commands.specs.Acts.{act};
 ghost use Rattle.wb_commands.specs.Parsing.{IsScriptWithin};
 ghost use Rattle.wb_dialog.specs.Lines.{IsWithin};
-ghost use Rattle.wb_commands.specs.SentLines.{send_line};
-ghost use Rattle.wb_dialog.specs.Dialog.{answered, batch_of, goes_out, speaker, says, answer_at};
-ghost use Rattle.wb_dialog.specs.Doing.{DoesAt, Adds};
+ghost use Rattle.wb_dialog.specs.Dialog.{answer_at, answered, arrives, goes_out, says, script_answer, speaker};
+ghost use Rattle.wb_dialog.specs.Doing.{DoesAt};
 
-use crate::blocks::print_version;
 use crate::fault::{Refusal, Unanswered};
 use crate::line::DriverLine;
-use std::alloc::{AllocError, Global};
+use crate::parsing::refused;
+use crate::told::Told;
+use std::alloc::Global;
 use wb_board::Reply;
 use wb_codec::Datagram;
-use wb_commands::{Command, LineFault, Untaken, arrival_line, send_line};
-use wb_lines::Output;
+use wb_commands::{Command, LineFault, take};
 use wb_member::Member;
 use wb_names::Drawop;
 
-/// What any other line of a script does here.
-fn act(
-    alloc: Global,
-    member: &mut Member,
-    command: &Command,
-    output: &mut Output,
-) -> Result<(), Unanswered>
+/// A call or a question.
+fn act(alloc: Global, member: &mut Member, command: &Command) -> Result<Told, Unanswered>
     requires { IsScriptWithin command.now }
-    ensures text { Adds output.old output.new (λ written.
-        DoesAt member.old member.new written result (λ host. answered (act command.now host))) }
+    ensures { DoesAt member.old member.new result (λ host. answered (act command.now host)) }
 {
-    match wb_commands::act(alloc, member, command, output) {
-        Ok(()) => Ok(()),
-        Err(Untaken::Line(fault)) => Err(Unanswered::Refused(Refusal::Line(fault))),
-        Err(Untaken::Memory) => Err(Unanswered::Memory),
+    match take(alloc, member, command) {
+        Ok(told) => Ok(Told::Member(told)),
+        Err(fault) => Err(refused(fault)),
     }
 }
 
@@ -50,110 +41,73 @@ fn speaker(datagram: &Datagram) -> u32
     }
 }
 
-/// Prints the line of a datagram that is sent. If an allocation fails, it prints nothing.
-fn send(alloc: Global, datagram: &Datagram, output: &mut Output) -> Result<(), AllocError>
-    ensures ok { OnOk result (output.new ≡ output.old ++ send_line datagram.now) }
-    ensures err { OnErr result (output.new ≡ output.old) }
+/// A drawop that came in is accepted.
+fn arrive(member: &mut Member, drawop: &Drawop) -> Result<Told, Unanswered>
+    ensures { DoesAt member.old member.new result (arrives drawop.now) }
 {
-    let text = send_line(alloc, datagram)?;
-    output.add(text.as_bytes())
-}
-
-/// Prints the batch that one drawop is. If an allocation fails, it prints nothing.
-fn count(became: Option<Reply>, output: &mut Output) -> Result<(), AllocError>
-    ensures ok { OnOk result (output.new ≡ output.old ++ batch_of (outcome_in became)) }
-    ensures err { OnErr result (output.new ≡ output.old) }
-{
-    output.add(arrival_line(became))
+    Ok(Told::Batch(member.accept(drawop)?))
 }
 
 /// A drawop of ours is accepted, and goes out if it is new or was held already.
-fn publish(
-    alloc: Global,
-    member: &mut Member,
-    drawop: &Drawop,
-    output: &mut Output,
-) -> Result<(), Unanswered>
-    ensures text { Adds output.old output.new (λ written.
-        DoesAt member.old member.new written result (goes_out (Datagram.Draw drawop.now))) }
+fn publish(member: &mut Member, drawop: &Drawop) -> Result<Told, Unanswered>
+    ensures { DoesAt member.old member.new result (goes_out (Datagram.Draw drawop.now)) }
 {
     let became = member.accept(drawop)?;
     match became {
-        Some(Reply::New(_)) => send(alloc, &Datagram::Draw(*drawop), output)?,
-        Some(Reply::Again(_)) => send(alloc, &Datagram::Draw(*drawop), output)?,
-        Some(Reply::Clash(_)) => count(became, output)?,
-        None => count(became, output)?,
+        Some(Reply::New(_)) => Ok(Told::Send(Datagram::Draw(*drawop))),
+        Some(Reply::Again(_)) => Ok(Told::Send(Datagram::Draw(*drawop))),
+        Some(Reply::Clash(_)) => Ok(Told::Batch(became)),
+        None => Ok(Told::Batch(became)),
     }
-    Ok(())
 }
 
 /// A datagram of ours goes out. A drawop is accepted first.
-fn go_out(
-    alloc: Global,
-    member: &mut Member,
-    datagram: &Datagram,
-    output: &mut Output,
-) -> Result<(), Unanswered>
-    ensures text { Adds output.old output.new (λ written.
-        DoesAt member.old member.new written result (goes_out datagram.now)) }
+fn go_out(member: &mut Member, datagram: Datagram) -> Result<Told, Unanswered>
+    ensures { DoesAt member.old member.new result (goes_out datagram) }
 {
-    if let Datagram::Draw(drawop) = datagram {
-        return publish(alloc, member, drawop, output);
+    match datagram {
+        Datagram::Draw(drawop) => publish(member, &drawop),
+        datagram => Ok(Told::Send(datagram)),
     }
-    send(alloc, datagram, output)?;
-    Ok(())
 }
 
 /// A datagram is to be said.
-fn say(
-    alloc: Global,
-    member: &mut Member,
-    datagram: &Datagram,
-    output: &mut Output,
-) -> Result<(), Unanswered>
-    ensures text { Adds output.old output.new (λ written.
-        DoesAt member.old member.new written result (says datagram.now)) }
+fn say(member: &mut Member, datagram: Datagram) -> Result<Told, Unanswered>
+    ensures { DoesAt member.old member.new result (says datagram) }
 {
-    if speaker(datagram) != member.me() {
+    if speaker(&datagram) != member.me() {
         return Err(Unanswered::Refused(Refusal::Member));
     }
-    go_out(alloc, member, datagram, output)
+    go_out(member, datagram)
 }
 
-/// It says the number of the lines.
-fn version(member: &mut Member, output: &mut Output) -> Result<(), Unanswered>
-    ensures text { Adds output.old output.new (λ written.
-        DoesAt member.old member.new written result (answer_at DriverLine.Version)) }
+/// What a line of a script does here, or a call or a question that no script has.
+fn script(alloc: Global, member: &mut Member, command: &Command) -> Result<Told, Unanswered>
+    requires { IsScriptWithin command.now }
+    ensures { DoesAt member.old member.new result (script_answer command.now) }
 {
-    print_version(output)?;
-    Ok(())
+    match command {
+        Command::Skip => Ok(Told::Nothing),
+        Command::Arrive(drawop) => arrive(member, drawop),
+        Command::Board { .. } => Err(Unanswered::Refused(Refusal::Line(LineFault::SecondBoard))),
+        command => act(alloc, member, command),
+    }
 }
 
-/// What a line does at an open member: it prints, or it is refused, and then the member stays as it
-/// is.
+/// What a line does at an open member, and what it comes to; or it is refused, and then the member
+/// stays as it is.
 pub(crate) fn answer(
     alloc: Global,
     member: &mut Member,
-    line: &DriverLine,
-    output: &mut Output,
-) -> Result<(), Unanswered>
-    requires { IsWithin line.now }
-    ensures text { Adds output.old output.new (λ written.
-        DoesAt member.old member.new written result (answer_at line.now)) }
+    line: DriverLine,
+) -> Result<Told, Unanswered>
+    requires { IsWithin line }
+    ensures { DoesAt member.old member.new result (answer_at line) }
 {
     match line {
-        DriverLine::Script(Command::Skip) => Ok(()),
-        DriverLine::Script(Command::Arrive(drawop)) => {
-            let became = member.accept(drawop)?;
-            count(became, output)?;
-            Ok(())
-        }
-        DriverLine::Script(Command::Board { .. }) => {
-            Err(Unanswered::Refused(Refusal::Line(LineFault::SecondBoard)))
-        }
-        DriverLine::Script(command) => act(alloc, member, command, output),
-        DriverLine::Say(datagram) => say(alloc, member, datagram, output),
-        DriverLine::Version => version(member, output),
+        DriverLine::Script(command) => script(alloc, member, &command),
+        DriverLine::Say(datagram) => say(member, datagram),
+        DriverLine::Version => Ok(Told::Version),
         DriverLine::Keep { .. } => Err(Unanswered::Refused(Refusal::TooLate)),
         DriverLine::Came { .. } => Err(Unanswered::Refused(Refusal::NotKept)),
         DriverLine::Add(_) => Err(Unanswered::Refused(Refusal::NotKept)),

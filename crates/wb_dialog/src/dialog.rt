@@ -1,5 +1,5 @@
 //! A host as a handler of the lines of a driver: each line has its block.
-ghost use Rattle.std.specs.Prelude.{◌≡◌, [], None, Ok, Some, true, is_some};
+ghost use Rattle.std.specs.Prelude.{◌≡◌, None, Ok, Some, true, is_some};
 ghost use Rattle.wb_recovery.specs.Timing.{are_constants};
 ghost use Rattle.wb_keeping.specs.Performing.{KeptValue};
 ghost use Rattle.wb_judging.specs.Performing.{JudgedValue};
@@ -9,7 +9,7 @@ ghost use Rattle.wb_dialog.specs.Lines.{IsWithin, line_of};
 ghost use Rattle.wb_dialog.specs.Hosting.{reply, reply_to};
 ghost use Rattle.wb_dialog.specs.Doing.{Adds, BlocksAt, DoesReply, IsKindAt, LeadsFrom, judged_in, kept_in, with_kept, with_member};
 
-use crate::blocks::{print_ok, print_version, refused_line};
+use crate::blocks::{print_block, refused_line};
 use crate::board::Board;
 use crate::fault::{Refusal, Unanswered};
 use crate::judged_line::JudgeLine;
@@ -17,6 +17,7 @@ use crate::judged_parsing::read_judge;
 use crate::line::DriverLine;
 use crate::opened::Host;
 use crate::parsing::read_line;
+use crate::told::Told;
 use std::alloc::{AllocError, Global};
 use std::convert::Infallible;
 use std::marker::Model;
@@ -143,21 +144,15 @@ impl Dialog {
     }
 
     /// What a line does before a board is open.
-    fn begin(
-        &mut self,
-        alloc: Global,
-        line: &DriverLine,
-        output: &mut Output,
-    ) -> Result<(), Unanswered>
+    fn begin(&mut self, alloc: Global, line: &DriverLine) -> Result<Told, Unanswered>
         requires line { IsWithin line.now }
         requires closed { self.old.host ≡ None }
-        ensures text { Adds output.old output.new (λ written.
-            DoesReply None self.new.host written result
-            (reply_to self.old.tuning None line.now)) }
+        ensures does { DoesReply None self.new.host result
+            (reply_to self.old.tuning None line.now) }
         ensures tuning { self.new.tuning ≡ self.old.tuning }
     {
         match line {
-            DriverLine::Script(Command::Skip) => Ok(()),
+            DriverLine::Script(Command::Skip) => Ok(Told::Nothing),
             DriverLine::Script(
                 Command::Board {
                     member,
@@ -169,38 +164,29 @@ impl Dialog {
                 let board = Board::new(*member, *cells, *seed);
                 let host = Host::open(alloc, board, self.tuning)?;
                 self.put(host);
-                Ok(())
+                Ok(Told::Nothing)
             }
-            DriverLine::Version => {
-                print_version(output)?;
-                Ok(())
-            }
+            DriverLine::Version => Ok(Told::Version),
             _ => Err(Unanswered::Refused(Refusal::Line(LineFault::NoBoard))),
         }
     }
 
     /// The same, by its bytes.
-    fn take_first(
-        &mut self,
-        alloc: Global,
-        content: &[u8],
-        output: &mut Output,
-    ) -> Result<(), Unanswered>
+    fn take_first(&mut self, alloc: Global, content: &[u8]) -> Result<Told, Unanswered>
         requires { self.old.host ≡ None }
-        ensures text { Adds output.old output.new (λ written.
-            DoesReply None self.new.host written result
-            (reply self.old.tuning None (line_of content.now))) }
+        ensures does { DoesReply None self.new.host result
+            (reply self.old.tuning None (line_of content.now)) }
         ensures tuning { self.new.tuning ≡ self.old.tuning }
     {
         let line = read_line(alloc, content)?;
-        self.begin(alloc, &line, output)
+        self.begin(alloc, &line)
     }
 
     /// From now on the host is judged, if it may be.
     #[tactic(auto, using(crate::proofs::EachKind::is_closed))]
-    fn judge(&mut self, alloc: Global, line: JudgeLine) -> Result<(), Unanswered>
+    fn judge(&mut self, alloc: Global, line: JudgeLine) -> Result<Told, Unanswered>
         requires { IsJudgeLine line }
-        ensures does { LeadsFrom self.old.host self.new.host [] result
+        ensures does { LeadsFrom self.old.host self.new.host result
             (judge_response self.old.tuning line) }
         ensures tuning { self.new.tuning ≡ self.old.tuning }
     {
@@ -214,36 +200,29 @@ impl Dialog {
 
     /// What a line does that does not begin to judge.
     #[tactic(auto, using(crate::proofs::EachKind::leads_first))]
-    fn take_line(
-        &mut self,
-        alloc: Global,
-        content: &[u8],
-        output: &mut Output,
-    ) -> Result<(), Unanswered>
-        ensures text { Adds output.old output.new (λ written.
-            LeadsFrom self.old.host self.new.host written result
-            (λ s. line_response self.old.tuning s content.now)) }
+    fn take_line(&mut self, alloc: Global, content: &[u8]) -> Result<Told, Unanswered>
+        ensures does { LeadsFrom self.old.host self.new.host result
+            (λ s. line_response self.old.tuning s content.now) }
         ensures tuning { self.new.tuning ≡ self.old.tuning }
     {
         let Some(host) = self.host.take() else {
-            return self.take_first(alloc, content, output);
+            return self.take_first(alloc, content);
         };
-        let (next, result) = host.take(alloc, content, output);
+        let (next, result) = host.take(alloc, content);
         self.put(next);
         result
     }
 
-    /// What a line does. If an allocation fails, nothing is promised of what is left: the host is
-    /// given up.
+    /// What a line does, and what it comes to. If an allocation fails, nothing is promised of what
+    /// is left: the host is given up.
     #[tactic(auto, using(crate::proofs::EachKind::begins_not, crate::proofs::EachKind::begins, crate::proofs::EachKind::unread))]
-    fn act(&mut self, alloc: Global, content: &[u8], output: &mut Output) -> Result<(), Unanswered>
-        ensures text { Adds output.old output.new (λ written.
-            LeadsFrom self.old.host self.new.host written result
-            (λ s. response_to self.old.tuning s content.now)) }
+    fn act(&mut self, alloc: Global, content: &[u8]) -> Result<Told, Unanswered>
+        ensures does { LeadsFrom self.old.host self.new.host result
+            (λ s. response_to self.old.tuning s content.now) }
         ensures tuning { self.new.tuning ≡ self.old.tuning }
     {
         match read_judge(content) {
-            None => self.take_line(alloc, content, output),
+            None => self.take_line(alloc, content),
             Some(Ok(line)) => self.judge(alloc, line),
             Some(Err(fault)) => Err(Unanswered::Refused(Refusal::Line(fault))),
         }
@@ -263,8 +242,8 @@ impl Dialog {
             (λ s. response_to self.old.tuning s content.now)) }
         ensures tuning { self.new.tuning ≡ self.old.tuning }
     {
-        match self.act(alloc, content, output) {
-            Ok(()) => print_ok(self.next_due(), output),
+        match self.act(alloc, content) {
+            Ok(told) => print_block(alloc, &told, self.next_due(), output),
             Err(Unanswered::Refused(refusal)) => self.refuse(alloc, refusal, output),
             Err(Unanswered::Memory) => Err(AllocError),
         }

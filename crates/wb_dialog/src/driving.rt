@@ -1,7 +1,7 @@
 //! What a line does at a host that its driver drives.
-ghost use Rattle.std.specs.Prelude.{◌≡◌, ◌≤◌, [], None, Some, Ok};
-ghost use Rattle.wb_dialog.specs.Doing.{Adds, DoesOpen, LeadsOpen};
-ghost use Rattle.wb_dialog.specs.Hosting.{acts_in_script, board_after, is_acting, keep_reply, taken_by};
+ghost use Rattle.std.specs.Prelude.{◌≡◌, ◌≤◌, None, Some, Ok, if◌then◌else◌};
+ghost use Rattle.wb_dialog.specs.Doing.{DoesOpen, LeadsOpen};
+ghost use Rattle.wb_dialog.specs.Hosting.{acts_in_script, is_acting, keep_reply, taken_by};
 ghost use Rattle.wb_dialog.specs.Kinds.{common_response, line_response};
 ghost use Rattle.wb_dialog.specs.Lines.{IsWithin};
 ghost use Rattle.wb_dialog.specs.declared.opened.Host.TheVariants as values;
@@ -12,10 +12,10 @@ use crate::fault::{Refusal, Unanswered};
 use crate::line::DriverLine;
 use crate::opened::Host;
 use crate::parsing::read_line;
+use crate::told::Told;
 use std::alloc::Global;
 use wb_commands::Command;
 use wb_keeping::KeptMember;
-use wb_lines::Output;
 use wb_member::{Call, Member};
 
 /// Whether a line of a script acts on its host.
@@ -43,10 +43,10 @@ fn is_acting(line: &DriverLine) -> bool
 }
 
 /// The board with which a driven host may become self-managing after a line.
-fn board_after(line: &DriverLine, board: Option<Board>) -> Option<Board>
-    ensures { result ≡ board_after line.now board }
+fn board_after(is_acting: bool, board: Option<Board>) -> Option<Board>
+    ensures { result ≡ (if is_acting then None else board) }
 {
-    if is_acting(line) { None } else { board }
+    if is_acting { None } else { board }
 }
 
 /// From now on it is self-managing, if it still has its board.
@@ -56,16 +56,16 @@ fn begin_to_keep(
     board: Option<Board>,
     rate: u32,
     listen: u32,
-) -> (Host, Result<(), Unanswered>)
+) -> (Host, Result<Told, Unanswered>)
     requires rate { 1 ≤ rate }
-    ensures { DoesOpen (values.Driven member board) result.0 [] result.1
+    ensures { DoesOpen (values.Driven member board) result.0 result.1
         (λ h. keep_reply rate listen (Some h)) }
 {
     match board {
         Some(board) => {
             let seed = board.seed();
             let kept = KeptMember::keep(member, u64::from(rate), u64::from(listen), seed);
-            (Host::Kept(kept), Ok(()))
+            (Host::Kept(kept), Ok(Told::Nothing))
         }
         None => (
             Host::Driven {
@@ -83,54 +83,52 @@ fn drive(
     alloc: Global,
     mut member: Member,
     board: Option<Board>,
-    line: &DriverLine,
-    output: &mut Output,
-) -> (Host, Result<(), Unanswered>)
-    requires { IsWithin line.now }
-    ensures text { Adds output.old output.new (λ written.
-        DoesOpen (values.Driven member board) result.0 written result.1 (taken_by line.now)) }
+    line: DriverLine,
+) -> (Host, Result<Told, Unanswered>)
+    requires { IsWithin line }
+    ensures { DoesOpen (values.Driven member board) result.0 result.1 (taken_by line) }
 {
-    match answer(alloc, &mut member, line, output) {
-        Ok(()) => {
-            let board = board_after(line, board);
-            (Host::Driven { member, board }, Ok(()))
+    let is_acting = is_acting(&line);
+    match answer(alloc, &mut member, line) {
+        Ok(told) => {
+            let board = board_after(is_acting, board);
+            (Host::Driven { member, board }, Ok(told))
         }
         Err(fault) => (Host::Driven { member, board }, Err(fault)),
     }
 }
 
 /// What it does for a line.
+#[tactic(auto, using(crate::proofs::EachKind::keeps_driven, crate::proofs::EachKind::leads_driven))]
 fn take(
     alloc: Global,
     member: Member,
     board: Option<Board>,
-    line: &DriverLine,
-    output: &mut Output,
-) -> (Host, Result<(), Unanswered>)
-    requires { IsWithin line.now }
-    ensures text { Adds output.old output.new (λ written. LeadsOpen (values.Driven member board)
-        result.0 written result.1 (λ tuning s. common_response tuning s (Ok line.now))) }
+    line: DriverLine,
+) -> (Host, Result<Told, Unanswered>)
+    requires { IsWithin line }
+    ensures { LeadsOpen (values.Driven member board) result.0 result.1
+        (λ tuning s. common_response tuning s (Ok line)) }
 {
-    if let DriverLine::Keep { rate, listen } = line {
-        return begin_to_keep(member, board, *rate, *listen);
+    match line {
+        DriverLine::Keep { rate, listen } => begin_to_keep(member, board, rate, listen),
+        line => drive(alloc, member, board, line),
     }
-    drive(alloc, member, board, line, output)
 }
 
-/// What it does for a line, by its bytes: it prints, or it is refused, and then it stays as it is.
+/// What it does for a line, by its bytes; or it is refused, and then it stays as it is.
 #[tactic(auto, using(crate::proofs::EachKind::reads_driven, crate::proofs::EachKind::unread_driven))]
 pub(crate) fn take_driven(
     alloc: Global,
     member: Member,
     board: Option<Board>,
     content: &[u8],
-    output: &mut Output,
-) -> (Host, Result<(), Unanswered>)
-    ensures text { Adds output.old output.new (λ written. LeadsOpen (values.Driven member board)
-        result.0 written result.1 (λ tuning s. line_response tuning s content.now)) }
+) -> (Host, Result<Told, Unanswered>)
+    ensures { LeadsOpen (values.Driven member board) result.0 result.1
+        (λ tuning s. line_response tuning s content.now) }
 {
     match read_line(alloc, content) {
-        Ok(line) => take(alloc, member, board, &line, output),
+        Ok(line) => take(alloc, member, board, line),
         Err(fault) => (Host::Driven { member, board }, Err(fault)),
     }
 }

@@ -1,27 +1,21 @@
-//! What a line does at a judged member.
-ghost use Rattle.std.specs.Prelude.{◌≡◌, IfOk, List, MatchResult, true};
-ghost use Rattle.wb_dialog.specs.Doing.{Adds};
+//! What a line does at a judged member, and what it comes to. Nothing is printed here.
+ghost use Rattle.std.specs.Prelude.{◌≡◌, IfOk, true};
+ghost use Rattle.wb_dialog.specs.Doing.{DoesJudged, unanswered_by_judged};
 ghost use Rattle.wb_dialog.specs.Judged.{act};
-ghost use Rattle.wb_dialog.specs.Doing.{DoesJudged, IsUndone, Tells, unanswered_by_judged};
 ghost use Rattle.wb_dialog.specs.JudgedLines.{IsWithin};
 ghost use Rattle.wb_display.specs.Canvas.{canvas_text, is_canvas_size};
-ghost use Rattle.wb_member.specs.Opened.{shown};
+ghost use Rattle.wb_judging.specs.Calling.{IsWithin as IsCallWithin};
 ghost use Rattle.wb_judging.specs.Judged.{Judged};
 ghost use Rattle.wb_judging.specs.Performing.{IsJudgedAt};
-ghost use Rattle.wb_dialog.specs.Texts.{events_text, lacks_line, list_text, paint_text, since_text, worded_line};
-ghost use Rattle.wb_names.specs.Values.{DrawopValue};
+ghost use Rattle.wb_member.specs.Opened.{shown};
 
 use crate::fault::{Refusal, Unanswered, refused_by_kept};
 use crate::judged_line::JudgedLine;
-use crate::texts::{
-    print_canvas, print_events, print_lacks, print_list, print_members, print_since, print_words,
-};
+use crate::told::Told;
 use std::alloc::{AllocError, Global};
-use wb_codec::Datagram;
 use wb_display::Canvas;
-use wb_judge::{AddFault, Listed};
-use wb_judging::{Event, JudgedFault, JudgedMember, Since};
-use wb_lines::Output;
+use wb_judge::AddFault;
+use wb_judging::{Call, JudgedFault, JudgedMember};
 use wb_member::{Answer, Query};
 use wb_names::PageId;
 
@@ -39,56 +33,31 @@ fn refused(fault: JudgedFault) -> Unanswered
     }
 }
 
-/// Prints the events that follow from a call, or says why it is refused.
-fn tell(
-    alloc: Global,
-    did: Result<Vec<Event>, JudgedFault>,
-    output: &mut Output,
-) -> Result<(), Unanswered>
-    ensures { Adds output.old output.new (λ written. MatchResult did
-        (λ events. Tells written result (events_text events.items))
-        (λ fault. IsUndone written result (unanswered_by_judged fault))) }
+/// Something happens to the member.
+fn call(alloc: Global, member: &mut JudgedMember, call: &Call) -> Result<Told, Unanswered>
+    requires { IsCallWithin call.now }
+    ensures { DoesJudged member.old member.new result (act (JudgedLine.Call call.now)) }
 {
-    match did {
-        Ok(events) => {
-            print_events(alloc, &events, output)?;
-            Ok(())
-        }
+    match member.call(alloc, call) {
+        Ok(events) => Ok(Told::Events(events)),
         Err(fault) => Err(refused(fault)),
     }
 }
 
 /// Which numbers were heard lately.
-fn members(alloc: Global, member: &mut JudgedMember, output: &mut Output) -> Result<(), Unanswered>
-    ensures text { Adds output.old output.new (λ written.
-        DoesJudged member.old member.new written result (act JudgedLine.Members)) }
+#[tactic(auto, using(crate::proofs::Acts::found))]
+fn members(alloc: Global, member: &mut JudgedMember) -> Result<Told, Unanswered>
+    ensures { DoesJudged member.old member.new result (act JudgedLine.Members) }
 {
-    let others = member.members(alloc)?;
-    print_members(alloc, &others, output)?;
-    Ok(())
-}
-
-/// Prints pages.
-fn tell_pages(alloc: Global, pages: &[Listed], output: &mut Output) -> Result<(), Unanswered>
-    ensures { Adds output.old output.new (λ written.
-        Tells written result (list_text pages.now)) }
-{
-    print_list(alloc, pages, output)?;
-    Ok(())
+    Ok(Told::Members(member.members(alloc)?))
 }
 
 /// Which pages are drawn on.
-fn list(
-    alloc: Global,
-    member: &mut JudgedMember,
-    most: u32,
-    output: &mut Output,
-) -> Result<(), Unanswered>
-    ensures text { Adds output.old output.new (λ written.
-        DoesJudged member.old member.new written result (act (JudgedLine.List most))) }
+#[tactic(auto, using(crate::proofs::Acts::lists))]
+fn list(alloc: Global, member: &mut JudgedMember, most: u32) -> Result<Told, Unanswered>
+    ensures { DoesJudged member.old member.new result (act (JudgedLine.List most)) }
 {
-    let pages = member.list(alloc, most as usize)?;
-    tell_pages(alloc, &pages, output)
+    Ok(Told::Pages(member.list(alloc, most as usize)?))
 }
 
 /// The canvas of a page.
@@ -115,119 +84,70 @@ fn canvas(
     }
 }
 
-/// Prints a canvas.
-fn tell_canvas(
-    alloc: Global,
-    canvas: &Canvas,
-    width: u32,
-    height: u32,
-    output: &mut Output,
-) -> Result<(), Unanswered>
-    ensures { Adds output.old output.new (λ written. (shown : List DrawopValue) →
-        canvas.now ≡ canvas_text shown width height →
-        Tells written result (paint_text shown width height)) }
-{
-    print_canvas(alloc, canvas, width, height, output)?;
-    Ok(())
-}
-
 /// Paints a page.
+#[tactic(auto, using(crate::proofs::Acts::found))]
 fn paint(
     alloc: Global,
     member: &mut JudgedMember,
     page: PageId,
     width: u32,
     height: u32,
-    output: &mut Output,
-) -> Result<(), Unanswered>
+) -> Result<Told, Unanswered>
     requires { is_canvas_size width height ≡ true }
-    ensures text { Adds output.old output.new (λ written.
-        DoesJudged member.old member.new written result (act (JudgedLine.Paint page width height))) }
+    ensures { DoesJudged member.old member.new result (act (JudgedLine.Paint page width height)) }
 {
     let canvas = canvas(alloc, member, page, width, height)?;
-    tell_canvas(alloc, &canvas, width, height, output)
-}
-
-/// Prints what a page shows otherwise than it did.
-fn tell_since(alloc: Global, since: &Since, output: &mut Output) -> Result<(), Unanswered>
-    ensures { Adds output.old output.new (λ written. Tells written result
-        (since_text since.now.held since.now.hidden.items since.now.shown.items)) }
-{
-    print_since(alloc, since, output)?;
-    Ok(())
+    Ok(Told::Canvas {
+        canvas,
+        width,
+        height,
+    })
 }
 
 /// What a page shows otherwise than when `count` drawops were held.
+#[tactic(auto, using(crate::proofs::Acts::sinces))]
 fn since(
     alloc: Global,
     member: &mut JudgedMember,
     page: PageId,
     count: u32,
-    output: &mut Output,
-) -> Result<(), Unanswered>
-    ensures text { Adds output.old output.new (λ written.
-        DoesJudged member.old member.new written result (act (JudgedLine.Since page count))) }
+) -> Result<Told, Unanswered>
+    ensures { DoesJudged member.old member.new result (act (JudgedLine.Since page count)) }
 {
-    let since = member.since(alloc, page, count)?;
-    tell_since(alloc, &since, output)
-}
-
-/// Prints how many drawops are missing.
-fn tell_lacks(alloc: Global, count: u64, output: &mut Output) -> Result<(), Unanswered>
-    ensures { Adds output.old output.new (λ written. Tells written result (lacks_line count)) }
-{
-    print_lacks(alloc, count, output)?;
-    Ok(())
+    Ok(Told::Since(member.since(alloc, page, count)?))
 }
 
 /// How many drawops of a page are missing.
-fn lacks(
-    alloc: Global,
-    member: &mut JudgedMember,
-    page: PageId,
-    output: &mut Output,
-) -> Result<(), Unanswered>
-    ensures text { Adds output.old output.new (λ written.
-        DoesJudged member.old member.new written result (act (JudgedLine.Lacks page))) }
+#[tactic(auto, using(crate::proofs::Acts::found))]
+fn lacks(alloc: Global, member: &mut JudgedMember, page: PageId) -> Result<Told, Unanswered>
+    ensures { DoesJudged member.old member.new result (act (JudgedLine.Lacks page)) }
 {
-    let count = member.lacks(alloc, page)?;
-    tell_lacks(alloc, count, output)
+    Ok(Told::Lacks(member.lacks(alloc, page)?))
 }
 
-/// Says a datagram in words.
-fn words(alloc: Global, datagram: &Datagram, output: &mut Output) -> Result<(), Unanswered>
-    ensures { Adds output.old output.new (λ written.
-        Tells written result (worded_line datagram.now)) }
-{
-    print_words(alloc, datagram, output)?;
-    Ok(())
-}
-
-/// What a line does at a judged member: it prints, or it is refused, and then the member stays as
-/// it is.
+/// What a line does at a judged member, and what it comes to; or it is refused, and then the member
+/// stays as it is.
 pub(crate) fn answer(
     alloc: Global,
     member: &mut JudgedMember,
-    line: &JudgedLine,
-    output: &mut Output,
-) -> Result<(), Unanswered>
-    requires { IsWithin line.now }
-    ensures text { Adds output.old output.new (λ written.
-        DoesJudged member.old member.new written result (act line.now)) }
+    line: JudgedLine,
+) -> Result<Told, Unanswered>
+    requires { IsWithin line }
+    ensures { DoesJudged member.old member.new result (act line) }
 {
     match line {
-        JudgedLine::Call(call) => tell(alloc, member.call(alloc, call), output),
-        JudgedLine::Members => members(alloc, member, output),
-        JudgedLine::List { most } => list(alloc, member, *most, output),
+        JudgedLine::Call(said) => call(alloc, member, &said),
+        JudgedLine::Members => members(alloc, member),
+        JudgedLine::List { most } => list(alloc, member, most),
         JudgedLine::Paint {
             page,
             width,
             height,
-        } => paint(alloc, member, *page, *width, *height, output),
-        JudgedLine::Since { page, count } => since(alloc, member, *page, *count, output),
-        JudgedLine::Lacks { page } => lacks(alloc, member, *page, output),
-        JudgedLine::Words { datagram } => words(alloc, datagram, output),
-        JudgedLine::Skip => Ok(()),
-        JudgedLine::Common => Ok(()),
+        } => paint(alloc, member, page, width, height),
+        JudgedLine::Since { page, count } => since(alloc, member, page, count),
+        JudgedLine::Lacks { page } => lacks(alloc, member, page),
+        JudgedLine::Words { datagram } => Ok(Told::Words(datagram)),
+        JudgedLine::Skip => Ok(Told::Nothing),
+        JudgedLine::Common => Ok(Told::Nothing),
     }
 }

@@ -11,12 +11,13 @@
 //! also which datagrams it takes, by their origins.
 //!
 //! In reading order: `line` has the lines of any host, and `judged_line` those of a judged one
-//! besides; `words`, `parsing`, `recorded` and `judged_parsing` read them, and `fault` says why one
-//! is refused. `answering`, `keeping` and `judged_answering` do what a line says at a member;
-//! `blocks`, `record_text` and `texts` print. `board` is what a host keeps until it begins to be
-//! kept or judged (`beginning`). `opened` has the three kinds of an open host: `driving`, `keeping`
-//! and `judged` say what a line does at each. `dialog` joins them into a handler of lines, and
-//! `hosting` runs it. `laws` says what follows.
+//! besides; `words`, `parsing`, `recorded` and `judged_parsing` read them, and `fault` says why
+//! one is refused. `told` is what a line comes to. `answering`, `keeping` and `judged_answering` do
+//! what a line says at a member and answer that; they print nothing. `record_text`, `texts` and
+//! `blocks` print it, and know no member. `board` is what a host keeps until it begins to be kept or
+//! judged (`beginning`). `opened` has the three kinds of an open host: `driving`, `keeping` and
+//! `judged` say what a line does at each. `dialog` joins them into a handler of lines, and `hosting`
+//! runs it. `laws` says what follows.
 #![tactic(auto)]
 
 mod answering;
@@ -39,6 +40,7 @@ mod parsing;
 mod record_text;
 mod recorded;
 mod texts;
+mod told;
 mod words;
 
 pub use dialog::Dialog;

@@ -1,8 +1,8 @@
 //! A host once its board is open.
-ghost use Rattle.std.specs.Prelude.{◌≡◌, [], Option, Some, true, IfOk};
+ghost use Rattle.std.specs.Prelude.{◌≡◌, Option, Some, true, IfOk};
 ghost use Rattle.wb_recovery.specs.Timing.{are_constants};
 ghost use Rattle.wb_member.specs.Opened.{opened_with};
-ghost use Rattle.wb_dialog.specs.Doing.{Adds, IsHostAt, IsKindAt, LeadsFrom, LeadsOpen};
+ghost use Rattle.wb_dialog.specs.Doing.{IsHostAt, IsKindAt, LeadsFrom, LeadsOpen};
 ghost use Rattle.wb_dialog.specs.Hosting.{Driven, in_time};
 ghost use Rattle.wb_dialog.specs.JudgedLines.{IsJudgeLine};
 ghost use Rattle.wb_dialog.specs.Kinds.{Kind, due_of, judge_response, line_response};
@@ -13,10 +13,10 @@ use crate::fault::{Refusal, Unanswered};
 use crate::judged::{begin_to_judge, take_judged};
 use crate::judged_line::JudgeLine;
 use crate::keeping::take_kept;
+use crate::told::Told;
 use std::alloc::{AllocError, Global};
 use wb_judging::JudgedMember;
 use wb_keeping::KeptMember;
-use wb_lines::Output;
 use wb_member::Member;
 use wb_names::MOMENT_LIMIT;
 use wb_recovery::Tuning;
@@ -74,22 +74,16 @@ impl Host {
         }
     }
 
-    /// What a line does that does not begin to judge: it prints, or it is refused, and then the
-    /// host stays as it is. If an allocation fails, nothing is promised of what is left: the host
-    /// is given up.
-    pub fn take(
-        self,
-        alloc: Global,
-        content: &[u8],
-        output: &mut Output,
-    ) -> (Host, Result<(), Unanswered>)
-        ensures text { Adds output.old output.new (λ written. LeadsOpen self result.0 written
-            result.1 (λ tuning s. line_response tuning s content.now)) }
+    /// What a line does that does not begin to judge, and what it comes to; or it is refused, and
+    /// then the host stays as it is. If an allocation fails, nothing is promised of what is left:
+    /// the host is given up.
+    pub fn take(self, alloc: Global, content: &[u8]) -> (Host, Result<Told, Unanswered>)
+        ensures { LeadsOpen self result.0 result.1 (λ tuning s. line_response tuning s content.now) }
     {
         match self {
-            Host::Driven { member, board } => take_driven(alloc, member, board, content, output),
-            Host::Kept(kept) => take_kept(alloc, kept, content, output),
-            Host::Judged(member) => take_judged(alloc, member, content, output),
+            Host::Driven { member, board } => take_driven(alloc, member, board, content),
+            Host::Kept(kept) => take_kept(alloc, kept, content),
+            Host::Judged(member) => take_judged(alloc, member, content),
         }
     }
 
@@ -100,10 +94,10 @@ impl Host {
         alloc: Global,
         tuning: Tuning,
         line: JudgeLine,
-    ) -> (Host, Result<(), Unanswered>)
+    ) -> (Host, Result<Told, Unanswered>)
         requires constants { are_constants tuning ≡ true }
         requires line { IsJudgeLine line }
-        ensures { LeadsFrom (Some self) (Some result.0) [] result.1 (judge_response tuning line) }
+        ensures { LeadsFrom (Some self) (Some result.0) result.1 (judge_response tuning line) }
     {
         match self {
             Host::Driven { member, board } => begin_to_judge(alloc, tuning, line, member, board),

@@ -1,20 +1,24 @@
-//! What is printed for events, and for the members and the pages that a driver asks for.
-ghost use Rattle.std.specs.Prelude.{◌≡◌, ◌+◌, ◌++◌, IfOk, OnOk, List, codes, drop, flat_map, length, min, take};
+//! The text of what a line comes to.
+ghost use Rattle.std.specs.Prelude.{◌≡◌, ◌+◌, ◌++◌, ℕ, IfOk, OnOk, List, codes, drop, flat_map, length, min, take};
 ghost use Rattle.std.specs.List.{range_with_len};
 ghost use Rattle.std.specs.String.{string_bytes};
-ghost use Rattle.wb_dialog.specs.Doing.{Adds, Prints};
+ghost use Rattle.wb_member.specs.Holding.{outcome_in};
+ghost use Rattle.wb_commands.specs.SentLines.{sends_text};
+ghost use Rattle.wb_dialog.specs.Dialog.{batch_of, version_line};
+ghost use Rattle.wb_dialog.specs.Inside.Told.{Says, batch_text};
 ghost use Rattle.wb_dialog.specs.Texts.{drew_line, dropped_line, became_line, event_line, events_text, fate_word, fetch_line, lacks_line, list_text, listed_line, member_line, members_text, moment_word, origin_word, paint_text, painted_row, hidden_line, record_line, shown_line, since_text, warning_line, why_word, worded_line};
 ghost use Rattle.wb_names.specs.Values.{DrawopValue};
 ghost use Rattle.wb_display.specs.Canvas.{canvas_text};
 
+use crate::line::LINES_VERSION;
 use crate::record_text::write_record;
+use crate::told::{Batch, Told};
 use std::alloc::{AllocError, Global};
+use wb_board::Reply;
 use wb_codec::Datagram;
-use wb_commands::send_line;
-use wb_display::Canvas;
+use wb_commands::{arrival_line, send_line, sends_text, told_text as member_text};
 use wb_judge::{Listed, Origin, Other, Warning, Why};
 use wb_judging::{Event, Fate, RecordLine, ShownAt, Since};
-use wb_lines::Output;
 use wb_names::{Name, PageId, Target};
 use wb_words::write_words;
 
@@ -34,6 +38,7 @@ fn why_word(why: Why) -> &'static str
         Why::Full => "full",
         Why::Share => "share",
         Why::Pages => "pages",
+        Why::Holes => "holes",
     }
 }
 
@@ -311,84 +316,64 @@ fn worded_line(alloc: Global, datagram: &Datagram) -> Result<Vec<u8>, AllocError
     Ok(text)
 }
 
-/// Prints events, a line for each. If an allocation fails, nothing is printed.
-pub(crate) fn print_events(
-    alloc: Global,
-    events: &[Event],
-    output: &mut Output,
-) -> Result<(), AllocError>
-    ensures { Adds output.old output.new (λ written.
-        Prints written result (events_text events.now)) }
+/// The number of the lines.
+fn version_line(alloc: Global) -> Result<String, AllocError>
+    ensures { IfOk result (λ text. string_bytes text ≡ version_line) }
 {
-    output.add(events_text(alloc, events)?.as_slice())
+    let version = LINES_VERSION;
+    format!(in alloc; "version {version}\n")
 }
 
-/// Prints `members K`, and K members, a line for each. If an allocation fails, nothing is printed.
-pub(crate) fn print_members(
-    alloc: Global,
-    members: &[Other],
-    output: &mut Output,
-) -> Result<(), AllocError>
-    ensures { Adds output.old output.new (λ written.
-        Prints written result (members_text members.now)) }
+/// The line of a batch.
+fn batch_line(alloc: Global, became: Option<Reply>) -> Result<Vec<u8>, AllocError>
+    ensures { IfOk result (λ text. text.items ≡ batch_of (outcome_in became)) }
 {
-    output.add(members_text(alloc, members)?.as_bytes())
+    let mut text = Vec::new(alloc);
+    text.extend_from_slice(arrival_line(became))?;
+    Ok(text)
 }
 
-/// Prints `list K`, and K pages, a line for each. If an allocation fails, nothing is printed.
-pub(crate) fn print_list(
-    alloc: Global,
-    pages: &[Listed],
-    output: &mut Output,
-) -> Result<(), AllocError>
-    ensures { Adds output.old output.new (λ written.
-        Prints written result (list_text pages.now)) }
+/// The line of a batch, if there is one.
+fn batch_text(batch: Batch) -> &'static [u8]
+    ensures { result.now ≡ batch_text batch }
 {
-    output.add(list_text(alloc, pages)?.as_bytes())
+    match batch {
+        Batch::Untold => b"",
+        Batch::Told(became) => arrival_line(became),
+    }
 }
 
-/// Prints `paint H`, and H rows, each after a mark. If an allocation fails, nothing is printed.
-pub(crate) fn print_canvas(
-    alloc: Global,
-    canvas: &Canvas,
-    width: u32,
-    height: u32,
-    output: &mut Output,
-) -> Result<(), AllocError>
-    ensures { Adds output.old output.new (λ written. (shown : List DrawopValue) →
-        canvas.now ≡ canvas_text shown width height →
-        Prints written result (paint_text shown width height)) }
+/// What is sent, and then a batch.
+fn sent_text(alloc: Global, sent: &[Datagram], batch: Batch) -> Result<Vec<u8>, AllocError>
+    ensures { IfOk result (λ text. text.items ≡ sends_text sent.now ++ batch_text batch) }
 {
-    output.add(paint_text(alloc, canvas.bytes(), width, height)?.as_slice())
+    let mut text = sends_text(alloc, sent)?.into_bytes();
+    text.extend_from_slice(batch_text(batch))?;
+    Ok(text)
 }
 
-/// Prints what a page shows otherwise than it did. If an allocation fails, nothing is printed.
-pub(crate) fn print_since(
-    alloc: Global,
-    since: &Since,
-    output: &mut Output,
-) -> Result<(), AllocError>
-    ensures { Adds output.old output.new (λ written. Prints written result
-        (since_text since.now.held since.now.hidden.items since.now.shown.items)) }
+/// The text of what a line comes to.
+pub(crate) fn told_text(alloc: Global, told: &Told) -> Result<Vec<u8>, AllocError>
+    ensures { IfOk result (λ written. (text : List ℕ) → Says told.now text →
+        written.items ≡ text) }
 {
-    output.add(since_text(alloc, since)?.as_slice())
-}
-
-/// Prints how many drawops of a page are missing. If an allocation fails, nothing is printed.
-pub(crate) fn print_lacks(alloc: Global, count: u64, output: &mut Output) -> Result<(), AllocError>
-    ensures { Adds output.old output.new (λ written. Prints written result (lacks_line count)) }
-{
-    output.add(lacks_line(alloc, count)?.as_bytes())
-}
-
-/// Prints a datagram in words. If an allocation fails, nothing is printed.
-pub(crate) fn print_words(
-    alloc: Global,
-    datagram: &Datagram,
-    output: &mut Output,
-) -> Result<(), AllocError>
-    ensures { Adds output.old output.new (λ written.
-        Prints written result (worded_line datagram.now)) }
-{
-    output.add(worded_line(alloc, datagram)?.as_slice())
+    match told {
+        Told::Nothing => Ok(Vec::new(alloc)),
+        Told::Version => Ok(version_line(alloc)?.into_bytes()),
+        Told::Member(told) => member_text(alloc, told),
+        Told::Send(datagram) => Ok(send_line(alloc, datagram)?.into_bytes()),
+        Told::Batch(became) => batch_line(alloc, *became),
+        Told::Sent { sent, batch } => sent_text(alloc, sent, *batch),
+        Told::Events(events) => events_text(alloc, events),
+        Told::Members(members) => Ok(members_text(alloc, members)?.into_bytes()),
+        Told::Pages(pages) => Ok(list_text(alloc, pages)?.into_bytes()),
+        Told::Canvas {
+            canvas,
+            width,
+            height,
+        } => paint_text(alloc, canvas.bytes(), *width, *height),
+        Told::Since(since) => since_text(alloc, since),
+        Told::Lacks(count) => Ok(lacks_line(alloc, *count)?.into_bytes()),
+        Told::Words(datagram) => worded_line(alloc, datagram),
+    }
 }

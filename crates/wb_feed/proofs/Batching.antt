@@ -1,7 +1,7 @@
 -- What the workers accepted and what was taken again, as one batch.
-use Rattle.std.proofs.Common.{◌≡◌, ℕ, ◌+◌, ◌≤◌, ◌<◌, List, [], ◌∷◌, ◌++◌, length, map, get_or, refl, ap, sym, subst, ◌∙◌, inl, inr, ⊎_elim, arith, append_assoc, Option, Result, Err, take}
+use Rattle.std.proofs.Common.{◌≡◌, ℕ, ◌+◌, ◌≤◌, ◌<◌, List, [], ◌∷◌, ◌++◌, length, map, get_or, refl, ap, sym, subst, ◌∙◌, ⊎_elim, arith, append_assoc, Option, Result, Err, take}
 use Rattle.std.proofs.lemmas.List.{map-append}
-use Rattle.std.specs.Prelude.{All, Contains}
+use Rattle.std.specs.Prelude.{◌/◌, All, Contains}
 use Rattle.std.proofs.lemmas.Option.{get_or_from_slice_get, slice_get_within}
 use Rattle.wb_names.proofs.Listings.{Contains-cases, Contains-none}
 use Rattle.std.proofs.lemmas.Bool.Decides.{nat_tests}
@@ -20,22 +20,22 @@ use Rattle.wb_feed.specs.declared.channel.Message.TheVariants.{Take, End}
 use Rattle.wb_feed.specs.declared.workers.WorkFault.{WorkFault}
 use Rattle.wb_feed.specs.declared.workers.WorkFault.TheVariants.{Start}
 use Rattle.wb_feed.specs.declared.batch.Batch.{Batch}
-use Rattle.wb_feed.specs.Accepts.{Loses, Entry, Runs, drawops, tally}
+use Rattle.wb_feed.specs.Accepts.{Loses, Entry, drawops, tally}
 use Rattle.wb_feed.specs.Batches.{counted, counts_in, Takes, IsShared, IsSettled}
-use Rattle.wb_feed.specs.Workers.{nobody, worker, Work}
+use Rattle.wb_feed.specs.Workers.{Workers, nobody, worker, started, Work}
 use Rattle.wb_feed.specs.Inside.Working.{Worked, MayLose, lost_in}
-use Rattle.wb_feed.specs.Served.{once_below, Spot, is_left, entries, accepted_at, offered, OffersRight, times_offered, Serves}
+use Rattle.wb_feed.specs.Served.{once_below, Spot, is_left, entries, accepted_at, offered, OffersRight, times_offered}
 use Rattle.wb_feed.specs.Inside.Channel.{IsComplete, AreRight, spots}
 use Rattle.wb_feed.specs.Marks.{unmarked, Marks}
 use Rattle.wb_feed.specs.Inside.Filing.{told_at, told_outcomes, AreOnce, filled, filed_outcomes, Files, Settles}
 use Rattle.wb_feed.specs.Inside.Serving.{told_of, received}
 use Rattle.wb_board.proofs.InOrder.{one_run}
-use Rattle.wb_feed.proofs.Log.{is_taken, chosen, taken_or_left, tally-append, left_many, AreAnswered, Gathers, gathers_none, gathers_run, runs_empty, runs_sound}
+use Rattle.wb_feed.proofs.Log.{is_taken, chosen, taken_or_left, tally-append, left_many, AreAnswered, Gathers, gathers_run, runs_empty, runs_sound}
 use Rattle.wb_feed.proofs.Drawops.{nothing, at_named}
 use Rattle.wb_feed.proofs.Numbers.{times}
 use Rattle.wb_feed.proofs.OneThread.{counted_as, same_counts}
 use Rattle.wb_feed.proofs.OneWorker.{in_given_order}
-use Rattle.wb_feed.proofs.Placing.{places_and_rest, accepted_few, serves_offer, serves_offered, workers_offer, workers_offered, workers_gather, taken_at}
+use Rattle.wb_feed.proofs.Placing.{places_and_rest, accepted_few, workers_offer, workers_offered, workers_gather, taken_at}
 use Rattle.wb_feed.proofs.Prefixes.{prefix_length, take_prefix}
 use Rattle.wb_feed.proofs.Rows.{Among, prefix_among, loses_wider, lost_both, adds_none}
 use Rattle.wb_feed.proofs.OneRun.{in_some_order}
@@ -89,27 +89,18 @@ none_started out arrived p q r sp sq start none l = adds_none p q sp sq (subst (
 once_rises : (i m n : ℕ) → m ≤ n → once_below i m ≤ once_below i n
 once_rises i m n h = grind (arith, nat_tests)
 
--- What workers did, whether each had a part of the rows or the one the desk itself: p is the desk before, q the desk after
+-- What the workers did that were started: p is the desk before, q the desk after
 record Gained (p : PassValue) (log : List Spot) (gots : List Message) (q : PassValue) : Type 0 where
   gathers : Gathers p (entries log) q
   many : (i : ℕ) → times_offered i (offered log) ≡ spots i gots
   offers : (sent ds : List DrawopValue) → IsPrefix sent ds → AreRight sent gots → OffersRight ds (offered log)
 
 gained : (n : ℕ) (p q : PassValue) (log : List Spot) (gots : List Message) → Work n p log gots q → Gained p log gots q
-gained n p q log gots (inl x) =
-    let s = x.1 in
-    let run : Runs p (entries log) q = s.runs in
-    record { gathers = gathers_run p p q [] (entries log) (gathers_none p) run; many = λ i. serves_offered i s; offers = λ sent ds h right. serves_offer sent ds h right s }
-gained n p q log gots (inr x) = record { gathers = workers_gather x.1; many = λ i. workers_offered i x.1; offers = λ sent ds h right. workers_offer sent ds h right x.1 }
+gained n p q log gots w = record { gathers = workers_gather w; many = λ i. workers_offered i w; offers = λ sent ds h right. workers_offer sent ds h right w }
 
-alone : (n : ℕ) (p q : PassValue) (log : List Spot) (gots : List Message) → Work n p log gots q → n ≡ 1 → Serves p log gots q
-alone n p q log gots (inl x) one = x.1
-alone n p q log gots (inr x) one = absurd (omega (arith, x.0, one))
-
-work_sound : (n : ℕ) (p q : PassValue) (log : List Spot) (gots : List Message) → IsSound p → Work n p log gots q → IsSound q
-work_sound n p q log gots s (inl x) = runs_sound p q (entries log) s x.1.runs
-work_sound n p q log gots s (inr (some, nobody)) = absurd (omega (arith, some))
-work_sound n p q log gots s (inr (some, worker es others got more split serves rest back)) = back.sound
+workers_sound : {rows n : ℕ} {p q : PassValue} {log : List Spot} {gots : List Message} → IsSound p → Workers rows n p log gots q → IsSound q
+workers_sound s nobody = s
+workers_sound s (worker es others got more split serves rest back) = back.sound
 
 -- the same, with the replies to n workers
 abbrev pub AllWorked : ℕ → PassValue → PassValue → ChannelView → ChannelView → List (ℕ × Reply) → Type 0
@@ -194,7 +185,6 @@ module _ (n : ℕ) (p q r : PassValue) (g h : ChannelView) (told : List (ℕ × 
       let in_all : drawops (chosen is_taken all) ≡ taken ++ retaken = ap drawops (filter-append (λ (e : Entry). is_taken e.1) log more) ∙ map-append (λ (e : Entry). e.0) (chosen is_taken log) (chosen is_taken more) in
       let named : IsPermutation arrived (drawops (chosen is_taken all) ++ lefts) = subst (λ l. IsPermutation arrived (l ++ lefts)) (sym in_all) both in
       let full : 0 < length lefts → r.free ≡ 0 = λ some. runs_empty q r more m.runs (omega (arith, left_many more)) in
-      let sq = work_sound n p q c.log c.gots sp c.did in
       record {
         counted = m.many;
         rows = omega (arith, gs.free, fresh);
@@ -204,8 +194,8 @@ module _ (n : ℕ) (p q r : PassValue) (g h : ChannelView) (told : List (ℕ × 
         settled = λ w. in_some_order one_run n p arrived r shares lefts b sp w sr named (left_lacks q r more sr (stays_whole p r all gs w) m.runs) full (fresh, again, clash, left');
         in_order = λ is w.
             counted_as p.cells p.seen r.seen arrived (counts (tally all).fresh (tally all).again (tally all).clash (tally more).left) (counts_in b) (same_counts fresh again clash left)
-            (in_given_order complete.low p q r c.log c.gots more arrived (filled filed) sp w sq sr (alone n p q c.log c.gots c.did is) m.runs m.all few shares.once right shares.marked);
+            (in_given_order (p.free / n) p q r c.log c.gots more arrived (filled filed) sp w (subst (λ k. Workers (p.free / n) (started k) p c.log c.gots q) is c.did) m.runs m.all shares.marked);
       }
 
   pub settles : IsSound p → IsSettled n p arrived r b
-  settles sp = record { taken = takes_all sp (runs_sound q r m.log (work_sound n p q c.log c.gots sp c.did) m.runs); shared = (shares, tallied) }
+  settles sp = record { taken = takes_all sp (runs_sound q r m.log (workers_sound sp c.did) m.runs); shared = (shares, tallied) }

@@ -14,5 +14,6 @@ pub mod Filing
 pub mod Placing
 pub mod OneWorker
 pub mod Batching
+pub mod TakenAlone
 pub mod Telling
 pub mod OneRun

@@ -8,7 +8,7 @@ use mathlib.Core.List.{IsPrefix}
 use Rattle.wb_names.specs.Values.{DrawopValue}
 use Rattle.wb_names.specs.History.{IsAgainAt, IsClashAt}
 use Rattle.wb_names.specs.Arrivals.{Outcome, New, Again, Clash, Left, Counts, counts, counts_of}
-use Rattle.wb_board.specs.Desks.{PassValue, KeepsRows, AddsNothing, IsSound, IsWhole, IsSplit}
+use Rattle.wb_board.specs.Desks.{PassValue, AddsNothing, IsSound, IsWhole, IsSplit}
 use Rattle.wb_feed.specs.Accepts.{Keeps, Accepts, Entry, drawops, outcomes, tally, Runs}
 use Rattle.wb_feed.proofs.Prefixes.{prefix_self, prefix_is, prefix_trans, prefix_get}
 use Rattle.wb_feed.specs.Served.{once_below, is_left}

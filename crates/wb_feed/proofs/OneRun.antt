@@ -1,6 +1,7 @@
 -- What a batch answered its callers was answered at points of one history, so it is one run; and one thread takes the drawops in the order
 -- of that run.
-use Rattle.std.proofs.Common.{◌≡◌, ℕ, suc, ◌+◌, ◌≤◌, ◌<◌, ◌==◌, true, false, cond, List, [], ◌∷◌, ◌++◌, length, take, map, filter, refl, ap, sym, subst, ◌∙◌, inl, inr, arith, length-append, get_or}
+use Rattle.std.proofs.Common.{◌≡◌, ℕ, suc, ◌+◌, ◌≤◌, ◌<◌, ◌==◌, true, false, cond, List, [], ◌∷◌, ◌++◌, length, take, map, filter, refl, ap, sym, subst, ◌∙◌, arith, length-append, get_or}
+use Rattle.std.proofs.lemmas.Bool.Decides.{nat_tests}
 use Rattle.std.specs.Prelude.{nat_le, All, AllPairs}
 use Rattle.std.specs.List.Sorted.{IsPermutation}
 use Rattle.std.proofs.lemmas.List.{map-append, take-append-le}
@@ -22,10 +23,10 @@ use Rattle.wb_feed.specs.declared.batch.Batch.{Batch}
 use Rattle.wb_feed.specs.declared.channel.Message.{Message}
 use Rattle.wb_feed.specs.Accepts.{Entry, Accepts, Runs, drawops, outcomes, tally}
 use Rattle.wb_feed.specs.Batches.{counts_in, IsInSomeOrder, IsShared}
-use Rattle.wb_feed.specs.Calls.{answered, answered_of, answered_by, answered_workers, answered_working, answered_in, BatchIsOneRun}
+use Rattle.wb_feed.specs.Calls.{answered, answered_of, answered_by, answered_workers, answered_in, BatchIsOneRun}
 use Rattle.wb_feed.specs.Served.{Spot, entries}
-use Rattle.wb_feed.specs.Workers.{Workers, nobody, worker, Work}
-use Rattle.wb_feed.proofs.Log.{is_taken, chosen, place, places, places-append, runs_leave, Gathers, gathers_none, gathers_run, moved_drawops, tally_moved, taken_tally}
+use Rattle.wb_feed.specs.Workers.{Workers, nobody, worker, started, Work}
+use Rattle.wb_feed.proofs.Log.{is_taken, chosen, place, places, places-append, runs_leave, Gathers, gathers_run, moved_drawops, tally_moved, taken_tally}
 use Rattle.wb_feed.proofs.Drawops.{nothing}
 use Rattle.wb_feed.proofs.Numbers.{times, times-append, once_under, once_past}
 use Rattle.wb_feed.proofs.OneThread.{Lacks, takes_none, both_batches, counted_as, same_counts, plus}
@@ -190,16 +191,16 @@ record IsAnsweredSo (n : ℕ) (p : PassValue) (es : List Entry) (q : PassValue) 
   answers : Answers es ts
   gathers : Gathers p es q
 
-answered_so : (n : ℕ) (p : PassValue) (log : List Spot) (gots : List Message) (q : PassValue) (w : Work n p log gots q) → IsAnsweredSo n p (entries log) q (answered_working n p log gots q w)
-answered_so n p log gots q (inl alone) =
-    let es = entries log in
-    let run : Runs p es q = alone.1.runs in record {
-      answered = λ h g. by_others h (length p.seen) (λ c. c ≡ 0) (λ c. c < n) (answered_by 0 p es q run) (λ c e. omega (arith, e, alone.0)) (desk_answered h (length p.seen) 0 p es q run (omega arith) g);
-      turns = desk_in_turn 0 p es q run;
-      answers = desk_answers 0 p es q run;
-      gathers = gathers_run p p q [] es (gathers_none p) run;
-    }
-answered_so n p log gots q (inr several) = record { answered = λ h g. workers_answered h (length p.seen) several.1 (omega arith) g; turns = workers_in_turn several.1; answers = workers_answer several.1; gathers = workers_gather several.1 }
+started_few : (n : ℕ) → started n ≤ n
+started_few n = grind (arith, nat_tests)
+
+answered_so : (n : ℕ) (p : PassValue) (log : List Spot) (gots : List Message) (q : PassValue) (w : Work n p log gots q) → IsAnsweredSo n p (entries log) q (answered_workers w)
+answered_so n p log gots q w = record {
+  answered = λ h g. by_others h (length p.seen) (λ c. c < started n) (λ c. c < n) (answered_workers w) (λ c l. omega (arith, l, started_few n)) (workers_answered h (length p.seen) w (omega arith) g);
+  turns = workers_in_turn w;
+  answers = workers_answer w;
+  gathers = workers_gather w;
+}
 
 abbrev all_of : (n : ℕ) (p : PassValue) (given : List DrawopValue) (q : PassValue) → IsShared n p given q → List Entry
 all_of n p given q s = entries s.log ++ s.left_over
@@ -207,7 +208,7 @@ all_of n p given q s = entries s.log ++ s.left_over
 batch_answered : (n : ℕ) (p : PassValue) (given : List DrawopValue) (q : PassValue) (s : IsShared n p given q) → IsAnsweredSo (suc n) p (all_of n p given q s) q (answered_in n p given q s)
 batch_answered n p given q s =
     let so = answered_so n p s.log s.gots s.joined s.work in
-    let by_workers = answered_working n p s.log s.gots s.joined s.work in
+    let by_workers = answered_workers s.work in
     let by_desk = answered_by n s.joined s.left_over q s.rest in
     let k = length p.seen in
     let on = (runs_leave s.joined q s.left_over s.rest).kept.seen in

@@ -1,5 +1,5 @@
 -- What several workers did, put together.
-use Rattle.std.proofs.Common.{◌≡◌, ℕ, suc, ◌+◌, ◌-◌, ◌*◌, ◌≤◌, ◌<◌, Bool, true, List, [], ◌++◌, length, Result, Ok, Err, refl, ap, ap₂, sym, subst, ◌∙◌, arith, append_assoc, length-append, ⊎_elim}
+use Rattle.std.proofs.Common.{◌≡◌, ℕ, suc, ◌+◌, ◌-◌, ◌*◌, Bool, true, List, [], ◌++◌, Result, Ok, Err, refl, ap, ap₂, sym, subst, ◌∙◌, arith, append_assoc, length-append, ⊎_elim}
 use Rattle.std.proofs.lemmas.Grind.{flat_map-append}
 use Rattle.std.specs.Prelude.{IfOk, OnOk}
 use Rattle.std.proofs.lemmas.List.{append-nil}
@@ -19,10 +19,10 @@ use Rattle.wb_feed.specs.declared.workers.WorkFault.TheVariants.{Start, Memory}
 use Rattle.wb_feed.specs.Inside.Channel.{channel_view}
 use Rattle.wb_feed.specs.Inside.Serving.{Served, received, noted}
 use Rattle.wb_feed.specs.Served.{Spot}
-use Rattle.wb_feed.specs.Inside.Sent.{HasArrived}
+use Rattle.wb_feed.specs.Inside.Arriving.{HasArrived}
 use Rattle.wb_feed.specs.Inside.Feeding.{IsWith, IsMerged, HasFed}
 use Rattle.wb_feed.specs.Workers.{IsBack, Workers, nobody, worker}
-use Rattle.wb_feed.specs.Inside.Working.{Worked, MayLose, lost_in, TakesBack, ComesBack}
+use Rattle.wb_feed.specs.Inside.Working.{Worked, MayLose, lost_in, TakesBack}
 use Rattle.wb_feed.proofs.Log.{split_keeps, split_mine, keeps_trans}
 use Rattle.wb_feed.proofs.Rows.{longer, loses_wider, lost_both}
 use Rattle.wb_feed.proofs.Serving.{received_before, received_next}
@@ -106,12 +106,6 @@ several_fed gives most ended f f' g' g v w a b p q rows d others (Ok all) cut h 
 several_fed gives most ended f f' g' g v w a b p q rows d others (Err Start) cut h back t = fed_within gives most ended f f' g' g v w a b others (Err Start) cut h back tt (λ e. t.0)
 several_fed gives most ended f f' g' g v w a b p q rows d others (Err (Memory lost)) cut h back t = fed_within gives most ended f f' g' g v w a b others (Err (Memory lost)) cut h back tt (λ e. absurd (cc (e)))
 
-pub one_fed : {A : Type 0} (gives : A → List DrawopValue → A → Type 0) (most : A → ℕ) (ended : A → Bool) (f f' g' g : Feeding) (v w : ChannelView) (a b : A) (q : PassValue) (d : GivenBack) (fed r : Result Told WorkFault)
-    → IsWith f v f' → HasFed gives most ended f' a g' b fed → IsWith g' w g → ComesBack d fed q r → HasFed gives most ended f a g b r
-one_fed gives most ended f f' g' g v w a b q d fed (Ok all) cut h back t = fed_within gives most ended f f' g' g v w a b fed (Ok all) cut h back (subst (λ o. OnOk o (ended b ≡ true)) t.4 h.ended) (λ e. absurd (cc (e)))
-one_fed gives most ended f f' g' g v w a b q d fed (Err Start) cut h back t = fed_within gives most ended f f' g' g v w a b fed (Err Start) cut h back tt (λ e. t.1)
-one_fed gives most ended f f' g' g v w a b q d fed (Err (Memory lost)) cut h back t = fed_within gives most ended f f' g' g v w a b fed (Err (Memory lost)) cut h back tt (λ e. absurd (cc (e)))
-
 -- ---- what was done
 
 pub nobody_worked : (rows n : ℕ) (p : PassValue) (g h : ChannelView) (told : List (ℕ × Reply)) → n ≡ 0 → h.got ≡ g.got → told ≡ [] → Worked (λ log gots. Workers rows n p log gots p) g h told
@@ -140,20 +134,7 @@ several_worked rows n m p rest back q desk d f f' g' g others (Ok all) next s cu
       tells = t.4 ∙ (ap₂ (λ a b. a ++ b) k.tells o.tells ∙ sym (flat_map-append (λ (s : Spot). noted s.0 s.1.1) k.log o.log));
     }
 
-module _ (p q : PassValue) (d : GivenBack) (j : ChannelView) (before got : List Message) (all : got ≡ before ++ j.got) (fed : Result Told WorkFault) (s : Served p d.desk j d.told.replies.items d.failed) (none : lost_in fed ≡ 0) where
-  worked_alone : q ≡ d.desk → Loses 0 (received got) p q
-  worked_alone e = subst (λ (x : PassValue). Loses 0 (received got) p x) (sym e) (loses_wider 0 (received j.got) (received got) p d.desk (received_next before j.got got all) s.kept)
-
-  pub one_kept : (r : Result Told WorkFault) → ComesBack d fed q r → MayLose 0 (received got) p r q
-  one_kept (Ok all) t = kept_whole 0 (received got) p q (Ok all) refl (worked_alone t.0)
-  one_kept (Err Start) t = kept_whole 0 (received got) p q (Err Start) refl (worked_alone t.0)
-  one_kept (Err (Memory lost)) t = kept_whole 0 (received got) p q (Err (Memory lost)) (t.1 ∙ none) (worked_alone t.0)
-
 -- a worker whose thread was refused did nothing that counts
-pub refused_worked : (P : Told → Type 0) (d : GivenBack) (q : PassValue) (f : WorkFault) (r : Result Told WorkFault) → ComesBack d (Err f) q r → IfOk r P
-refused_worked P d q f (Ok all) t = absurd (cc (t.4))
-refused_worked P d q f (Err e) t = tt
-
 pub refused_back : (P : Told → Type 0) (p : PassValue) (rows : ℕ) (d : GivenBack) (q : PassValue) (f : WorkFault) (r : Result Told WorkFault) → TakesBack p rows d (Err f) q r → IfOk r P
 refused_back P p rows d q f (Ok all) t = absurd (cc (t.3))
 refused_back P p rows d q f (Err e) t = tt

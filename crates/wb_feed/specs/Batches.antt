@@ -52,8 +52,8 @@ pub record Takes (p : PassValue) (given : List DrawopValue) (workers : ℕ) (q :
   pub settled : IsWhole p → IsInSomeOrder p given q b
   pub in_order : workers ≡ 1 → IsWhole p → IsInOrder p given q b
 
--- How the workers shared what was given: they received the first ones, each once and by its position; their desks came back into the
--- desk `joined`, which then took, in order, what none of them had accepted
+-- How the workers that were started shared what was given: they received the first ones, each once and by its position; their desks came
+-- back into the desk `joined`, which took, in order, what none of them had accepted. One worker is the caller: the desk took all
 pub record IsShared (workers : ℕ) (p : PassValue) (given : List DrawopValue) (q : PassValue) : Type 0 where
   pub log : List Spot
   pub right : OffersRight given (offered log)

@@ -1,6 +1,5 @@
 -- What a batch answered its callers: each of its workers is one, and so is the desk, which takes what they left.
 use Rattle.std.specs.Prelude.{ℕ, List, [], ◌∷◌, ◌++◌, length}
-use mathlib.Core.Logic.{inl, inr}
 use Rattle.wb_names.specs.Values.{DrawopValue}
 use Rattle.wb_names.specs.Arrivals.{New, Again, Clash, Left}
 use Rattle.wb_board.specs.Desks.{PassValue, IsSound, IsWhole}
@@ -11,7 +10,7 @@ use Rattle.wb_board.specs.Runs.{Answered, AreAnsweredSince, IsOneRun, run_of}
 use Rattle.wb_feed.specs.declared.channel.Message.{Message}
 use Rattle.wb_feed.specs.Accepts.{Entry, Runs}
 use Rattle.wb_feed.specs.Served.{Spot, entries}
-use Rattle.wb_feed.specs.Workers.{Workers, nobody, worker, Work}
+use Rattle.wb_feed.specs.Workers.{Workers, nobody, worker}
 use Rattle.wb_feed.specs.Batches.{IsShared}
 
 -- the caller was given this reply to d when the history had `point` drawops
@@ -35,13 +34,9 @@ abbrev pub answered_workers : {rows n : ℕ} {p q : PassValue} {log : List Spot}
 answered_workers nobody = []
 answered_workers (worker {n = n} {desk = desk} {done = done} log others got gots split serves rest back) = answered_by n desk (entries log) done serves.runs ++ answered_workers rest
 
-abbrev pub answered_working : (n : ℕ) (p : PassValue) (log : List Spot) (gots : List Message) (q : PassValue) → Work n p log gots q → List Answered
-answered_working n p log gots q (inl alone) = answered_by 0 p (entries log) q alone.1.runs
-answered_working n p log gots q (inr several) = answered_workers several.1
-
 -- the whole batch of n workers, in which the desk has the number n
 abbrev pub answered_in : (n : ℕ) (p : PassValue) (given : List DrawopValue) (q : PassValue) → IsShared n p given q → List Answered
-answered_in n p given q s = answered_working n p s.log s.gots s.joined s.work ++ answered_by n s.joined s.left_over q s.rest
+answered_in n p given q s = answered_workers s.work ++ answered_by n s.joined s.left_over q s.rest
 
 -- what a batch on a desk that owns all rows answered is one run of a whiteboard of one thread, from the list before it to the list after it
 abbrev pub BatchIsOneRun : Type 0

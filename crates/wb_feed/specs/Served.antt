@@ -1,5 +1,4 @@
 -- What a worker does with the messages that it receives.
-use Rattle.wb_board.specs.declared.reply.Reply.TheVariants as replies
 use Rattle.std.specs.Prelude.{◌≡◌, ℕ, ◌+◌, ◌≤◌, ◌==◌, Bool, true, false, cond, List, [], ◌∷◌, ◌++◌, slice_get, Some, map, nat_lt}
 use Rattle.wb_names.specs.Values.{DrawopValue}
 use Rattle.wb_names.specs.Arrivals.{Outcome, New, Again, Clash, Left}

@@ -1,5 +1,5 @@
 -- Workers that each serve the channel.
-use Rattle.std.specs.Prelude.{◌≡◌, ◌⊎◌, ℕ, zero, suc, ◌+◌, ◌*◌, ◌/◌, ◌<◌, if◌then◌else◌, nat_eq, List, [], ◌++◌}
+use Rattle.std.specs.Prelude.{ℕ, zero, suc, ◌*◌, ◌/◌, if◌then◌else◌, nat_eq, List, [], ◌++◌}
 use Rattle.wb_board.specs.Desks.{PassValue, IsSamePass, IsSound, IsSplit, IsJoined}
 use Rattle.wb_feed.specs.declared.channel.Message.{Message}
 use Rattle.wb_feed.specs.Served.{Spot, Serves}
@@ -18,10 +18,14 @@ pub data Workers (rows : ℕ) : ℕ → PassValue → List Spot → List Message
       → IsSplit p rows rest desk → Serves desk log got done → Workers rows n rest others gots back → IsBack back done q
       → Workers rows (suc n) p (log ++ others) (gots ++ got) q
 
--- n workers: one has the desk itself, and of more each gets an equal part of its free rows
-abbrev pub Work : ℕ → PassValue → List Spot → List Message → PassValue → Type 0
-Work n p log gots q = ((n ≡ 1) × Serves p log gots q) ⊎ ((1 < n) × Workers (p.free / n) n p log gots q)
+-- how many of n workers are started: one is the caller, with the desk itself
+abbrev pub started : ℕ → ℕ
+started n = if nat_eq n 1 then 0 else n
 
--- how many of the free rows n workers get
+-- those of n workers that are started, each with an equal part of the desk's free rows
+abbrev pub Work : ℕ → PassValue → List Spot → List Message → PassValue → Type 0
+Work n p log gots q = Workers (p.free / n) (started n) p log gots q
+
+-- how many of the free rows they get
 abbrev pub handed_out : ℕ → ℕ → ℕ
-handed_out n free = if nat_eq n 1 then 0 else n * (free / n)
+handed_out n free = started n * (free / n)

@@ -1,6 +1,8 @@
 //! Where the drawops of a batch come from.
-ghost use Rattle.std.specs.Prelude.{◌≡◌, ℕ, ◌<◌, ◌≤◌, [], ◌∷◌, ◌++◌, length, List, Bool, true, IfSome, IfNone};
+ghost use Rattle.std.specs.Prelude.{◌≡◌, ℕ, ◌+◌, ◌<◌, ◌≤◌, ◌^◌, [], ◌∷◌, ◌++◌, length, List, Bool, true, IfSome, IfNone};
+ghost use Rattle.wb_feed.specs.Inside.Arriving.{NextArrives};
 
+use std::alloc::AllocError;
 use wb_names::Drawop;
 
 /// A source of drawops. It may end before all that it has to give is taken.
@@ -45,4 +47,23 @@ pub trait KnownArrivals: Arrivals {
 
     ghost one_list: { (a b c : Self) (ds es : List DrawopValue) → Self.Arrivals.gives a ds b →
         Self.Arrivals.gives a es c → length ds ≡ length es → ds ≡ es };
+}
+
+/// Takes one arrival, once there is room for it, and notes it. Answers its position, from 0, and
+/// it.
+pub(crate) fn note_next<S: Arrivals>(
+    arrivals: &mut S,
+    arrived: &mut Vec<Drawop>,
+) -> Result<Option<(u32, Drawop)>, AllocError>
+    requires { length arrived.old.items + S.most_to_come arrivals.old < 2 ^ 32 }
+    ensures { NextArrives S.gives S.most_to_come S.has_ended arrivals.old arrived.old.items
+        arrivals.new arrived.new.items result }
+{
+    arrived.reserve(1)?;
+    let position = arrived.len() as u32;
+    let Some(drawop) = arrivals.next() else {
+        return Ok(None);
+    };
+    arrived.push_reserved(drawop);
+    Ok(Some((position, drawop)))
 }

@@ -1,10 +1,11 @@
-//! A batch: the workers take what comes, and the desk takes again what none of them accepted.
+//! A batch: one worker takes what comes with the desk itself; of more, the desk takes again what none
+//! of them accepted.
 ghost use Rattle.std.specs.Prelude.{◌≡◌, ◌+◌, ◌<◌, ◌≤◌, ◌^◌, ◌⊎◌, ◌↔◌, true, List, [], ◌∷◌, Err, length, IfOk, OnOk};
 ghost use Rattle.crossbeam_channel.specs.Claims.{view};
 ghost use Rattle.crossbeam_channel.specs.Ends.{sends_on, receives_on};
 ghost use Rattle.wb_names.specs.Values.{DrawopValue};
 ghost use Rattle.wb_names.specs.Arrivals.{Outcome};
-ghost use Rattle.wb_board.specs.Counts.{IsWorkerCount};
+ghost use Rattle.wb_board.specs.declared.board.TheConstants.{MAX_WORKERS};
 ghost use Rattle.wb_board.specs.Desks.{IsPassOf, IsSound, AddsNothing};
 ghost use Rattle.wb_feed.specs.Accepts.{Keeps, Loses, Accepts};
 ghost use Rattle.wb_feed.specs.Inside.Channel.{channel_view};
@@ -14,6 +15,7 @@ ghost use Rattle.wb_feed.specs.Workers.{handed_out};
 ghost use Rattle.wb_feed.specs.Inside.Working.{MayLose};
 ghost use Rattle.wb_feed.specs.Batches.{Takes, IsSettled, SharesAndCounts, lost_by};
 
+use crate::alone::take_alone;
 use crate::arrivals::Arrivals;
 use crate::channel::{ChannelView, EachOnce, Message};
 use crate::fault::FeedFault;
@@ -41,6 +43,18 @@ pub struct Batch {
 impl Batch {
     ghost use Rattle.wb_board.specs.Replies.{outcome};
 
+    /// Nothing is counted.
+    pub(crate) fn new() -> Batch
+        ensures { result ≡ record { fresh = 0; again = 0; clash = 0; left = 0 } }
+    {
+        Batch {
+            fresh: 0,
+            again: 0,
+            clash: 0,
+            left: 0,
+        }
+    }
+
     /// Counts a reply.
     fn count(&mut self, reply: Reply)
         requires room { self.old.fresh + self.old.again + self.old.clash + self.old.left + 1
@@ -58,12 +72,12 @@ impl Batch {
 /// How many messages the channel has room for, at most.
 const CAPACITY: usize = 64;
 
-/// Takes all that the source gives, each drawop once, by `workers` workers, from 1 to 8, each on a
-/// thread of its own. One has the desk itself; of more each gets an equal part of the desk's free
-/// rows. A drawop that a worker had no row for is taken again with the desk once all are joined, in
-/// order of arrival, and `left` counts those that find no row there either. The gate is called
-/// round each accept of a worker. Answers the counts, and the drawops in the order in which they
-/// came.
+/// Takes all that the source gives, each drawop once, by `workers` workers, from 1 to 8. One is this
+/// thread, with the desk itself; of more each has a thread of its own, and gets an equal part of
+/// the desk's free rows. A drawop that one of these had no row for is taken again with the desk
+/// once all are joined, in order of arrival. `left` counts those that find no row in the desk. The
+/// gate is called round each accept of a worker. Answers the counts, and the drawops in the order
+/// in which they came.
 ///
 /// Whatever is answered, the desk gains places of drawops alone that the source gave. With a number
 /// of workers out of range nothing is taken. After `Start` nothing was taken, and each row and place
@@ -103,8 +117,18 @@ pub fn run_batch<R: Threads + Wait + Sync, S: Arrivals, G: Gate + Sync>(
     if workers == 0 || workers > MAX_WORKERS {
         return Err(FeedFault::Workers);
     }
+    let most = arrivals.most();
+    if workers == 1 {
+        let mut arrived = Vec::new(alloc);
+        let taken = take_alone(board, desk, arrivals, gate, &mut arrived);
+        let _sound = desk.rows_left();
+        return match taken {
+            Ok(batch) => Ok((batch, arrived)),
+            Err(_) => Err(FeedFault::Memory { lost: 0 }),
+        };
+    }
     // No more room than for what may come.
-    let capacity = (arrivals.most() as usize).clamp(1, CAPACITY);
+    let capacity = (most as usize).clamp(1, CAPACITY);
     let Ok((channel, end, pass)) = bounded_with::<Message, ChannelView, EachOnce, Global>(
         alloc, capacity,
     ) else {
@@ -136,7 +160,7 @@ fn take_batch<R: Threads + Wait + Sync, S: Arrivals, G: Gate + Sync>(
     arrivals: &mut S,
 ) -> Result<Batch, WorkFault>
     requires desk { IsPassOf shared.board.now desk.old }
-    requires workers { IsWorkerCount shared.workers }
+    requires workers { (1 < shared.workers) × (shared.workers ≤ MAX_WORKERS) }
     requires channel { receives_on shared.end.now ≡ sends_on feeding.old.channel }
     requires first { (view feeding.old.pass ≡ channel_view 16 true [] [])
         × (feeding.old.arrived.items ≡ []) × (feeding.old.going ≡ true) }
@@ -201,12 +225,7 @@ fn settle(
     ensures ok { IfOk result (λ b. Settles desk.old filed.now arrived.now desk.new b) }
     ensures kept { Loses 0 arrived.now desk.old desk.new }
 {
-    let mut batch = Batch {
-        fresh: 0,
-        again: 0,
-        clash: 0,
-        left: 0,
-    };
+    let mut batch = Batch::new();
     for i in 0..arrived.len() {
         if let Some(reply) = filed[i] {
             batch.count(reply);
@@ -218,7 +237,7 @@ fn settle(
 }
 
 /// Takes one drawop, and counts what became of it.
-fn take_one(
+pub(crate) fn take_one(
     board: &Board,
     desk: &mut Desk,
     batch: &mut Batch,

@@ -3,9 +3,10 @@ ghost use Rattle.std.specs.Prelude.{◌≡◌, ◌+◌, ◌-◌, ◌<◌, ◌^�
 ghost use Rattle.crossbeam_channel.specs.Claims.{view, IsSeatAt};
 ghost use Rattle.crossbeam_channel.specs.Ends.{sends_on};
 ghost use Rattle.wb_feed.specs.Inside.Channel.{channel_view, sends, IsComplete};
-ghost use Rattle.wb_feed.specs.Inside.Sent.{IsNext, IsSent, NextArrives, HasArrived, Stays};
+ghost use Rattle.wb_feed.specs.Inside.Arriving.{HasArrived};
+ghost use Rattle.wb_feed.specs.Inside.Sent.{IsNext, IsSent, Stays};
 
-use crate::arrivals::Arrivals;
+use crate::arrivals::{Arrivals, note_next};
 use crate::channel::{ChannelPass, ChannelSender, Cut, Message, Sends, Whole};
 use std::alloc::{AllocError, Global};
 use std::sync::Wait;
@@ -55,7 +56,8 @@ impl Feeding {
             arrivals.new self.new.arrived.items }
         ensures ended { OnOk result (S.has_ended arrivals.new ≡ true) }
     {
-        while let Some(message) = next_message(arrivals, &mut self.arrived)? {
+        while let Some((position, drawop)) = note_next(arrivals, &mut self.arrived)? {
+            let message = Message::Take(position, drawop);
             self.going = send_one(rt, &self.channel, &mut self.pass, self.going, message);
         }
         Ok(())
@@ -113,24 +115,6 @@ impl Feeding {
     {
         self.channel.learn_as::<Whole>(&mut self.pass);
     }
-}
-
-/// Takes one arrival, once there is room for it, and answers the message that it becomes.
-fn next_message<S: Arrivals>(
-    arrivals: &mut S,
-    arrived: &mut Vec<Drawop>,
-) -> Result<Option<Message>, AllocError>
-    requires { length arrived.old.items + S.most_to_come arrivals.old < 2 ^ 32 }
-    ensures { NextArrives S.gives S.most_to_come S.has_ended arrivals.old arrived.old.items
-        arrivals.new arrived.new.items result }
-{
-    arrived.reserve(1)?;
-    let position = arrived.len() as u32;
-    let Some(drawop) = arrivals.next() else {
-        return Ok(None);
-    };
-    arrived.push_reserved(drawop);
-    Ok(Some(Message::Take(position, drawop)))
 }
 
 /// Sends the message while the channel is open. Answers whether it is still open.

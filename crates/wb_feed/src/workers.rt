@@ -3,7 +3,6 @@ ghost use Rattle.std.specs.Prelude.{◌≡◌, ◌+◌, ◌*◌, ◌/◌, ◌<�
 ghost use Rattle.std.specs.Thread.{IsSync};
 ghost use Rattle.crossbeam_channel.specs.Claims.{view, IsSeatAt};
 ghost use Rattle.crossbeam_channel.specs.Ends.{sends_on, receives_on};
-ghost use Rattle.wb_board.specs.Counts.{IsWorkerCount};
 ghost use Rattle.wb_board.specs.declared.board.TheConstants.{MAX_WORKERS};
 ghost use Rattle.wb_board.specs.Desks.{IsPassOf};
 ghost use Rattle.wb_feed.specs.Inside.Feeding.{IsReady, IsMerged, HasFed};
@@ -12,7 +11,6 @@ ghost use Rattle.wb_feed.specs.Inside.Serving.{received};
 ghost use Rattle.wb_feed.specs.Workers.{Workers, Work, handed_out};
 ghost use Rattle.wb_feed.specs.Inside.Working.{HasWorked, MayLose, lost_in, TakesBack};
 
-use crate::alone::run_one;
 use crate::arrivals::Arrivals;
 use crate::channel::ChannelReceiver;
 use crate::gate::Gate;
@@ -35,7 +33,7 @@ pub(crate) enum WorkFault {
     Memory { lost: u32 },
 }
 
-/// The number of rows that are lost, by what the workers were told.
+/// The number of rows that are lost, by the replies to the workers.
 fn lost_in(told: &Result<Told, WorkFault>) -> u32
     ensures { result ≡ lost_in told.now }
 {
@@ -210,37 +208,8 @@ fn run_several<'s, 'e: 's, R: Threads + Wait + Sync, S: Arrivals, G: Gate + Sync
     }
 }
 
-/// The workers of a batch: one has the desk itself, and of more each gets `rows` rows.
-fn run_some<'s, 'e: 's, R: Threads + Wait + Sync, S: Arrivals, G: Gate + Sync>(
-    scope: &'s Scope<'s, &'e ()>,
-    shared: Shared<'e, R, G>,
-    root: &mut Desk,
-    rows: u32,
-    feeding: &mut Feeding,
-    arrivals: &mut S,
-) -> Result<Told, WorkFault>
-    requires root { IsPassOf shared.board.now root.old }
-    requires workers { IsWorkerCount shared.workers }
-    requires rows { rows ≡ root.old.free / shared.workers }
-    requires channel { receives_on shared.end.now ≡ sends_on feeding.old.channel }
-    requires ready { IsReady shared.workers feeding.old }
-    requires few { S.most_to_come arrivals.old < 2 ^ 32 }
-    ensures kept { MayLose (handed_out shared.entry.workers root.old.free)
-        (received (view feeding.new.pass).got) root.old result root.new }
-    ensures parts { (view feeding.new.pass).parts ≡ (view feeding.old.pass).parts }
-    ensures fed { HasFed S.gives S.most_to_come S.has_ended feeding.old arrivals.old
-        feeding.new arrivals.new result }
-    ensures ok { HasWorked
-        (Work shared.entry.workers root.old) feeding.old feeding.new root.new result }
-{
-    if shared.workers == 1 {
-        return run_one(scope, shared, root, feeding, arrivals);
-    }
-    run_several(scope, shared, root, rows, shared.workers, feeding, arrivals)
-}
-
-/// All workers, each on a thread of its own, fed from this one. One has the desk itself; of more
-/// each gets `rows` rows, an equal part of those that are free.
+/// The workers, of which there are two at least: each is on a thread of its own, fed from this one,
+/// and gets `rows` rows, an equal part of those that are free.
 pub(crate) fn run_all<R: Threads + Wait + Sync, S: Arrivals, G: Gate + Sync>(
     shared: Shared<R, G>,
     root: &mut Desk,
@@ -249,7 +218,7 @@ pub(crate) fn run_all<R: Threads + Wait + Sync, S: Arrivals, G: Gate + Sync>(
     arrivals: &mut S,
 ) -> Result<Told, WorkFault>
     requires root { IsPassOf shared.board.now root.old }
-    requires workers { IsWorkerCount shared.workers }
+    requires workers { (1 < shared.workers) × (shared.workers ≤ MAX_WORKERS) }
     requires rows { rows ≡ root.old.free / shared.workers }
     requires channel { receives_on shared.end.now ≡ sends_on feeding.old.channel }
     requires ready { IsReady shared.workers feeding.old }
@@ -267,7 +236,7 @@ pub(crate) fn run_all<R: Threads + Wait + Sync, S: Arrivals, G: Gate + Sync>(
         shared.rt,
         move |scope| -> (&mut Desk, &mut Feeding, &mut S, Result<Told, WorkFault>)
             requires { IsSync R.row × IsSync G.row × IsPassOf shared.board.now root.now
-                × IsWorkerCount shared.workers × (rows ≡ root.now.free / shared.workers)
+                × (1 < shared.workers) × (shared.workers ≤ MAX_WORKERS) × (rows ≡ root.now.free / shared.workers)
                 × (receives_on shared.end.now ≡ sends_on feeding.now.channel)
                 × IsReady shared.workers feeding.now × (S.most_to_come arrivals.now < 2 ^ 32) }
             ensures names { (result.0.ghost_name ≡ root.entry.ghost_name)
@@ -281,7 +250,8 @@ pub(crate) fn run_all<R: Threads + Wait + Sync, S: Arrivals, G: Gate + Sync>(
             ensures ok { HasWorked (Work shared.entry.workers root.entry.now) feeding.entry.now
                 result.1.now result.0.now result.3 }
         {
-            let told = run_some(scope, shared, root, rows, feeding, arrivals);
+            let workers = shared.workers;
+            let told = run_several(scope, shared, root, rows, workers, feeding, arrivals);
             (root, feeding, arrivals, told)
         },
     );

@@ -8,5 +8,5 @@ use Rattle.wb_host_sessions.proofs.Sessions.{hosts_agree}
 
 pub have_one_digest : HostsHaveOneDigest
 have_one_digest numbers trace older older' i j page digest again apart taken keep behind behind' same none nothing d e =
-    let agree = hosts_agree numbers trace older older' i j page apart taken keep behind behind' same none nothing in
+    let agree = hosts_agree numbers trace page apart taken keep older older' i j behind behind' same none nothing in
     digests_agree _ _ page digest again (held_once_at hosts numbers hosts_are_lawful older i) (held_once_at hosts numbers hosts_are_lawful older' j) agree.back agree.over d e

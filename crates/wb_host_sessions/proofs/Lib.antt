@@ -1,6 +1,7 @@
 mod Hosts
 mod Members
 mod Sessions
+mod Records
 mod Timers
 mod Clocks
 mod Examples

@@ -4,6 +4,8 @@ use Rattle.std.specs.Prelude.{◌+◌, Contains}
 use Rattle.wb_names.specs.Values.{DrawopValue}
 use Rattle.wb_names.specs.declared.name.PageId.{PageId}
 use Rattle.wb_names.proofs.Listings.{Contains-none}
+use Rattle.wb_codec.specs.declared.datagram.Datagram.{Datagram}
+use Rattle.wb_codec.specs.declared.datagram.Datagram.TheVariants.{AskPages, Draw, PageState, Request, Session}
 use Rattle.wb_keeping.specs.Kept.{drawing}
 use Rattle.wb_keeping.specs.Laws.{Added, Came, Ticked, Tuned}
 use Rattle.wb_keeping.specs.Performing.{Keeping, view_of}
@@ -12,19 +14,23 @@ use Rattle.wb_judging.specs.Judged.{Judged as JudgedState}
 use Rattle.wb_member.specs.Opened.{Opened, becomes, last_number, ticked}
 use Rattle.wb_laws_kept.specs.Sessions.{Begins, Call as KeptCall, Handed}
 use Rattle.wb_judged_sessions.specs.Sessions.{plain_line, JudgedCall, Starts, Takes, Tunes}
-use Rattle.wb_laws_machines.specs.Honest.{AreHonest, IsAbove, IsOn}
+use Rattle.wb_laws_machines.specs.Honest.{IsAbove, IsOn}
 use Rattle.wb_host_sessions.specs.Hosts.{Drives, Driven, AnyHost, HostEvent, JudgedHost, Judges, Keeps, Kept, Sets, hosts, judged_state, kept_state, member_of}
 use Rattle.wb_judged_sessions.specs.Judged.{judged}
 use Rattle.wb_laws_kept.specs.Kept.{kept}
-use Rattle.wb_laws_machines.specs.Machines.{At, drawn_at, state_at}
-use Rattle.wb_host_sessions.specs.Sessions.{DrawsAnew, HostsAgree, HostsAreMembers, KeepTo, PlaceKnowsItsOwn, NothingIsInvented}
-use Rattle.wb_laws_machines.proofs.Drawn.{each_was_drawn, names_mean_one, number_at}
+use Rattle.wb_laws_machines.specs.Machines.{At, drawn_at, sent, state_at}
+use Rattle.wb_laws_machines.specs.Maps.{SaySame, below}
+use Rattle.wb_host_sessions.specs.Sessions.{DrawsAnew, HostsAgree, HostsAreHonest, HostsAreMembers, PlaceKnowsItsOwn, SentWasDrawn}
+use Rattle.wb_laws_machines.proofs.Drawn.{each_was_drawn, number_at}
 use Rattle.wb_laws_machines.proofs.Honest.{honest_below}
 use Rattle.wb_host_sessions.proofs.Hosts.{hosts_are_lawful}
 use Rattle.wb_judged_sessions.proofs.Judged.{line_draws}
-use Rattle.wb_laws_sessions.proofs.Drawn.{new_is}
+use Rattle.wb_laws_sessions.proofs.Drawn.{behind, new_is}
 use Rattle.wb_laws_machines.proofs.Agreeing.{reports_tell_agreement}
-use Rattle.wb_laws_sessions.proofs.Members.{members_are_small}
+use Rattle.wb_laws_sessions.specs.Members.{member}
+use Rattle.wb_laws_sessions.proofs.Members.{member_is_lawful, members_are_small}
+use Rattle.wb_laws_sessions.proofs.Sent.{sent_was_held}
+use Rattle.wb_host_sessions.specs.Members.{hosts_map}
 use Rattle.wb_laws_machines.proofs.Mapped.{drawn_below, held_below, member_below, sent_below, small_above, taken_below}
 use Rattle.wb_host_sessions.proofs.Members.{hosts_do}
 
@@ -48,12 +54,12 @@ judged_counts (Starts start given) h d c = absurd (Contains-none d c)
 judged_counts (Takes line) h d c = kept_counts (Handed (plain_line (handed line h))) h.kept d (subst (λ (ds : List DrawopValue). Contains ds d) (sym (line_draws line h)) c)
 judged_counts (Tunes constants) h d c = absurd (Contains-none d c)
 
-kept_number : (x : AnyHost) → (kept_state x).host.is.number ≡ (member_of x).is.number
+pub kept_number : (x : AnyHost) → (kept_state x).host.is.number ≡ (member_of x).is.number
 kept_number (Driven host) = refl
 kept_number (Kept k) = refl
 kept_number (JudgedHost h) = refl
 
-judged_number : (x : AnyHost) → (judged_state x).kept.host.is.number ≡ (member_of x).is.number
+pub judged_number : (x : AnyHost) → (judged_state x).kept.host.is.number ≡ (member_of x).is.number
 judged_number (Driven host) = refl
 judged_number (Kept k) = refl
 judged_number (JudgedHost h) = refl
@@ -83,7 +89,7 @@ module _ (page : PageId) (numbers : ℕ → ℕ) (older : List (At HostEvent)) (
   all_good (Judges call) anew d here c = next_good (judged_state x).kept.host d (judged_number x) here (judged_counts call (judged_state x) d c) (anew d here c)
   all_good (Sets rate listen seed) anew d here c = absurd (Contains-none d c)
 
-pub hosts_are_honest : (page : PageId) (numbers : ℕ → ℕ) (trace : List (At HostEvent)) → KeepTo page numbers trace → AreHonest (IsOn page) hosts numbers trace
+pub hosts_are_honest : HostsAreHonest
 hosts_are_honest page numbers [] keep = tt
 hosts_are_honest page numbers (e ∷ older) keep =
     let good : (d : DrawopValue) → d.name.page ≡ page → Contains (hosts.drawn e.event (state_at hosts numbers older e.place)) d → Good page numbers older e.place d =
@@ -99,16 +105,25 @@ hosts_are_honest page numbers (e ∷ older) keep =
 -- ---- laws
 
 pub hosts_agree : HostsAgree
-hosts_agree numbers trace older older' i j page apart taken keep behind behind' same none nothing =
-    reports_tell_agreement hosts hosts_are_lawful (small_above hosts_do members_are_small) numbers trace older older' i j page apart taken (hosts_are_honest page numbers trace keep) behind behind' same none nothing
+hosts_agree numbers trace page apart taken keep older older' i j before before' same none nothing =
+    reports_tell_agreement hosts hosts_are_lawful (small_above hosts_do members_are_small) numbers trace older older' i j page apart taken (hosts_are_honest page numbers trace keep) before before' same none nothing
 
-pub nothing_is_invented : NothingIsInvented
-nothing_is_invented numbers trace older i page d apart keep behind here c =
-    let honest = hosts_are_honest page numbers trace keep in (
-      each_was_drawn hosts numbers (IsOn page) hosts_are_lawful trace honest older behind i d here c,
-      λ y was same. names_mean_one hosts numbers (IsOn page) hosts_are_lawful apart trace honest d y here
-          (each_was_drawn hosts numbers (IsOn page) hosts_are_lawful trace honest older behind i d here c) was same,
-    )
+-- what says the same as a drawop is that drawop
+same_draw : (v : Datagram) (d : DrawopValue) → SaySame v (Draw d) → v ≡ Draw d
+same_draw (Draw x) d e = e
+same_draw (Session sender sent page marks echoes) d e = absurd cc
+same_draw (Request asker name) d e = absurd cc
+same_draw (AskPages asker) d e = absurd cc
+same_draw (PageState sender page marks) d e = absurd cc
+
+pub sent_was_drawn : SentWasDrawn
+sent_was_drawn numbers trace page d taken honest here c =
+    let low = below hosts hosts_map numbers trace in
+    let same = sent_below hosts_do numbers trace taken (Draw d) c in
+    let was = sent_was_held numbers low d (subst (Contains (sent member numbers low)) (same_draw same.0 d same.2) same.1) in
+    let drawn = each_was_drawn member numbers (IsOn page) member_is_lawful low (honest_below hosts_do hosts_are_lawful numbers (IsOn page) trace honest)
+    was.older (behind numbers low was.newer was.older was.split) was.place d here was.held in
+    (drawn.0, drawn.1, subst (λ (ds : List DrawopValue). Contains ds d) (drawn_below hosts_do numbers trace drawn.0) drawn.2)
 
 pub hosts_are_members : HostsAreMembers
 hosts_are_members numbers trace taken = record {

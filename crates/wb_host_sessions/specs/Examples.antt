@@ -1,5 +1,6 @@
 -- A session of a driven host, a self-managing one, and a judged one, as an example; a drawop is forged on another page, new
--- constants are told, and the driven host's program is followed by a self-managing one.
+-- constants are told, the driven host's program is followed by a self-managing one, and the judged host starts anew from
+-- its file.
 use Rattle.std.specs.Prelude.{◌≡◌, ℕ, List, [], ◌∷◌}
 use Rattle.wb_names.specs.History.{name_of}
 use Rattle.wb_names.specs.Values.{DrawopValue}
@@ -9,6 +10,8 @@ use Rattle.wb_member.specs.Lines.{Says}
 use Rattle.wb_member.specs.Opened.{Opened, gaps_at}
 use Rattle.wb_keeping.specs.Laws.{Came}
 use Rattle.wb_judging.specs.declared.call.Call.TheVariants.{CameFrom}
+use Rattle.wb_judging.specs.declared.record.RecordLine.{RecordLine}
+use Rattle.wb_judging.specs.declared.record.RecordLine.TheVariants.{Strange, Tick}
 use Rattle.wb_laws_sessions.specs.Members.{Does, Opens}
 use Rattle.wb_laws_kept.specs.Sessions.{Begins, Handed}
 use Rattle.wb_judged_sessions.specs.Examples.{deletes, numbers, page, somewhere, start}
@@ -16,7 +19,7 @@ use Rattle.wb_laws_machines.specs.Honest.{AreApart}
 use Rattle.wb_host_sessions.specs.Hosts.{Drives, HostEvent, Judges, Keeps, hosts}
 use Rattle.wb_judged_sessions.specs.Sessions.{Starts, Takes, Tunes}
 use Rattle.wb_laws_machines.specs.Machines.{AreTaken, At, member_at}
-use Rattle.wb_host_sessions.specs.Sessions.{KeepTo}
+use Rattle.wb_host_sessions.specs.Records.{KeepRecords}
 
 abbrev pub drawing : DrawopValue
 drawing = record { name = name_of page 10 1; time = 5; op = deletes }
@@ -50,8 +53,15 @@ heard = at 6 2 (Judges (Takes (CameFrom 6 somewhere (Draw drawing)))) ∷ lied
 abbrev pub tuned : List (At HostEvent)
 tuned = at 7 2 (Judges (Tunes (record { c1 = 1; c2 = 1; d1 = 1; d2 = 1 }))) ∷ heard
 
+abbrev pub followed : List (At HostEvent)
+followed = at 8 0 (Keeps (Begins (start 4 1).opening (Draw drawing ∷ []))) ∷ tuned
+
+-- what the judged host told its driver to record
+abbrev pub file : List RecordLine
+file = Tick 6 ∷ Strange drawing ∷ []
+
 abbrev pub mixed : List (At HostEvent)
-mixed = at 8 0 (Keeps (Begins (start 4 1).opening (Draw drawing ∷ []))) ∷ tuned
+mixed = at 9 2 (Judges (Starts (start 3 7) file)) ∷ followed
 
 abbrev pub there : ℕ → Opened
 there i = member_at hosts numbers mixed i
@@ -61,7 +71,7 @@ there i = member_at hosts numbers mixed i
 pub record IsMixed : Type 0 where
   pub apart : AreApart numbers
   pub taken : AreTaken hosts numbers mixed
-  pub keep : KeepTo page numbers mixed
+  pub records : KeepRecords page numbers mixed
   pub one : (there 0).is.held ≡ drawing ∷ []
   pub other : (there 1).is.held ≡ drawing ∷ forged ∷ []
   pub third : (there 2).is.held ≡ drawing ∷ []

@@ -1,6 +1,7 @@
 pub mod Hosts
 pub mod Members
 pub mod Sessions
+pub mod Records
 pub mod Timers
 pub mod Clocks
 pub mod Examples

@@ -3,6 +3,7 @@ use Rattle.std.specs.Prelude.{◌≡◌, ℕ, ◌≤◌, List, [], ◌∷◌, Co
 use Rattle.wb_names.specs.Values.{DrawopValue}
 use Rattle.wb_names.specs.declared.name.PageId.{PageId}
 use Rattle.wb_codec.specs.declared.datagram.Datagram.{Datagram}
+use Rattle.wb_codec.specs.declared.datagram.Datagram.TheVariants.{Draw}
 use Rattle.wb_gaps.specs.Answers.{report_of}
 use Rattle.wb_member.specs.Opened.{Opened, gaps_at, last_number}
 use Rattle.wb_laws_machines.specs.Agreement.{Agree}
@@ -23,7 +24,7 @@ PlaceKnowsItsOwn page numbers older i host =
 
 -- A driver draws under the number of its place, and above all that was drawn there. A
 -- self-managing host, judged or not, counts by itself: when it draws it knows its own numbers, by its
--- record (tests/live/test_keeping.py: test_draw, test_unsaid) or by listening (check_listening there).
+-- record (tests/live/test_keeping.py: test_draw, test_unwritten) or by listening (check_listening there).
 abbrev pub DrawsAnew : PageId → (ℕ → ℕ) → List (At HostEvent) → ℕ → HostEvent → AnyHost → Type 0
 DrawsAnew page numbers older i (Drives deed) x =
     (d : DrawopValue) → d.name.page ≡ page → Contains (member.drawn deed (driven_in x)) d
@@ -53,24 +54,31 @@ KeepTo page numbers (e ∷ older) = KeepsTo page numbers older e × KeepTo page 
 
 -- ---- laws
 
--- Two hosts, of whatever kinds, that have one report of a page and no gaps there agree.
-abbrev pub HostsAgree : Type 0
-HostsAgree =
-    (numbers : ℕ → ℕ) (trace older older' : List (At HostEvent)) (i j : ℕ) (page : PageId)
-    → AreApart numbers → AreTaken hosts numbers trace → KeepTo page numbers trace
-    → older ⊑ trace → older' ⊑ trace
+-- Two hosts, of whatever kinds, that have one report of a page and no gaps there agree: each at a moment
+-- of its own, in either order.
+abbrev pub ReportsTell : (ℕ → ℕ) → List (At HostEvent) → PageId → Type 0
+ReportsTell numbers trace page =
+    (older older' : List (At HostEvent)) (i j : ℕ) → older ⊑ trace → older' ⊑ trace
     → let one = member_at hosts numbers older i in
     let other = member_at hosts numbers older' j in
     report_of one.is.held page ≡ report_of other.is.held page
     → gaps_at page one ≡ [] → gaps_at page other ≡ [] → Agree one other page
 
--- What a host holds of a page its source drew, just as it is, and each name there means one drawop.
-abbrev pub NothingIsInvented : Type 0
-NothingIsInvented =
-    (numbers : ℕ → ℕ) (trace older : List (At HostEvent)) (i : ℕ) (page : PageId) (d : DrawopValue)
-    → AreApart numbers → KeepTo page numbers trace → older ⊑ trace → d.name.page ≡ page
-    → Contains (member_at hosts numbers older i).is.held d
-    → WasDrawn hosts numbers trace d × ((x : DrawopValue) → WasDrawn hosts numbers trace x → d.name ≡ x.name → d ≡ x)
+abbrev pub HostsAgree : Type 0
+HostsAgree = (numbers : ℕ → ℕ) (trace : List (At HostEvent)) (page : PageId)
+    → AreApart numbers → AreTaken hosts numbers trace → KeepTo page numbers trace
+    → ReportsTell numbers trace page
+
+-- What hosts do that keep to these terms is what is asked of each machine.
+abbrev pub HostsAreHonest : Type 0
+HostsAreHonest = (page : PageId) (numbers : ℕ → ℕ) (trace : List (At HostEvent))
+    → KeepTo page numbers trace → AreHonest (IsOn page) hosts numbers trace
+
+-- A drawop that a host sends, of its user or as a repair, its source drew, just as it is.
+abbrev pub SentWasDrawn : Type 0
+SentWasDrawn = (numbers : ℕ → ℕ) (trace : List (At HostEvent)) (page : PageId) (d : DrawopValue)
+    → AreTaken hosts numbers trace → AreHonest (IsOn page) hosts numbers trace → d.name.page ≡ page
+    → Contains (sent hosts numbers trace) (Draw d) → WasDrawn hosts numbers trace d
 
 -- A session of hosts is one of members: at each place is the same member, which draws the same, and
 -- what says the same is sent; all of it is taken; what some host held some member held; and what keeps

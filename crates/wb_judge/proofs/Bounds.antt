@@ -9,7 +9,7 @@ use Rattle.wb_names.specs.Values.{DrawopValue}
 use Rattle.wb_codec.specs.declared.datagram.Datagram.{Datagram}
 use Rattle.wb_codec.specs.declared.datagram.Datagram.TheVariants.{AskPages, Draw, PageState, Request, Session}
 use Rattle.wb_judge.specs.Judge.{Judge, after_taking, knows}
-use Rattle.wb_judge.specs.Judging.{after_coming, after_judging}
+use Rattle.wb_judge.specs.Judging.{after_coming, after_judging, after_of}
 use Rattle.wb_judge.specs.Known.{is_known, known_from, left}
 use Rattle.wb_judge.specs.Laws.{Comes, IsBounded, Leaves, Remembers, Reports, SharesStay, StateIsBounded, Step, Tells, after_datagram, after_step, after_steps, is_answer, is_taken, speaker_in}
 use Rattle.wb_judge.specs.Origins.{same_origin}
@@ -18,12 +18,14 @@ use Rattle.wb_judge.specs.Shares.{Shares}
 use Rattle.wb_judge.specs.Strange.{has_name, is_given_by, with_given, without_origin}
 use Rattle.wb_judge.specs.declared.facts.Facts.{Facts}
 use Rattle.wb_judge.specs.declared.known.KnownOrigin.{KnownOrigin}
-use Rattle.wb_judge.specs.declared.limits.TheConstants.{MOST_KNOWN, MOST_OTHERS, MOST_OWN}
+use Rattle.wb_judge.specs.declared.limits.TheConstants.{MOST_KNOWN, MOST_OTHERS, MOST_OWN, MOST_TOLD}
 use Rattle.wb_judge.specs.declared.origin.Origin.{Origin}
 use Rattle.wb_judge.specs.declared.others.Other.{Other}
 use Rattle.wb_judge.specs.declared.strange.Given.{Given}
+use Rattle.wb_judge.specs.declared.told.ToldMark.{ToldMark}
 use Rattle.wb_judge.proofs.Outcome.{Heard, Same, outcome}
 use Rattle.wb_judge.proofs.Sizes.{filter_length, joined_length}
+use Rattle.wb_judge.proofs.Telling.{few_told, told_stays}
 
 -- ---- origins that are known
 
@@ -89,15 +91,16 @@ then : (i j k : Judge) → Leads i j → Leads j k → Leads i k
 then i j k one other = record { bounded = λ b. other.bounded (one.bounded b); most = other.most ∙ one.most }
 
 came : (o : Origin) (at : ℕ) (j : Judge) → Leads j (after_coming o at j)
-came o at j = record { bounded = λ b. record { own = b.own; known = few_known (is_known o at j.known) o at j.known b.known; others = b.others; strange = b.strange }; most = refl }
+came o at j = record { bounded = λ b. record { own = b.own; known = few_known (is_known o at j.known) o at j.known b.known; others = b.others; strange = b.strange; told = b.told }; most = refl }
 
-from_same : (j k : Judge) → Same j k → Leads j k
-from_same j k s = record {
+from_same : (j k : Judge) → Same j k → (length j.told ≤ MOST_TOLD → length k.told ≤ MOST_TOLD) → Leads j k
+from_same j k s few = record {
   bounded = λ b. record {
     own = subst (λ (xs : List ℕ). length xs ≤ MOST_OWN) (sym s.own) b.own;
     known = subst (λ (xs : List KnownOrigin). length xs ≤ MOST_KNOWN) (sym s.known) b.known;
     others = subst (λ (xs : List Other). length xs ≤ MOST_OTHERS) (sym s.others) b.others;
     strange = subst (λ (t : Shares). length t.given ≤ t.most) (sym s.strange) b.strange;
+    told = few b.told;
   };
   most = ap (λ (t : Shares). t.most) s.strange;
 }
@@ -105,26 +108,30 @@ from_same j k s = record {
 fits_bounded : (s t u : Shares) → u ≡ t → Fits s t → length s.given ≤ s.most → length u.given ≤ u.most
 fits_bounded s t u e fit few = subst (λ (w : Shares). length w.given ≤ w.most) (sym e) (subst (λ n. length t.given ≤ n) (sym fit.most) (fit.few few))
 
-from_heard : (o : Origin) (number : Option ℕ) (answer : Bool) (now : ℕ) (j k : Judge) → Heard o number answer now j k → Leads j k
-from_heard o number answer now j k h = record {
+from_heard : (o : Origin) (number : Option ℕ) (answer : Bool) (now : ℕ) (j k : Judge) → Heard o number answer now j k → (length j.told ≤ MOST_TOLD → length k.told ≤ MOST_TOLD) → Leads j k
+from_heard o number answer now j k h few = record {
   bounded = λ b. record {
     own = subst (λ (xs : List ℕ). length xs ≤ MOST_OWN) (sym h.own) b.own;
     known = subst (λ (xs : List KnownOrigin). length xs ≤ MOST_KNOWN) (sym h.known) (few_known answer o now j.known b.known);
     others = subst (λ (xs : List Other). length xs ≤ MOST_OTHERS) (sym h.others.1) (few_with h.others.0 j.others b.others);
     strange = fits_bounded j.strange _ k.strange h.strange (fits_without answer o j.strange) b.strange;
+    told = few b.told;
   };
   most = ap (λ (t : Shares). t.most) h.strange ∙ (fits_without answer o j.strange).most;
 }
 
 judged : (o : Origin) (v : Datagram) (f : Facts) (j : Judge) → Leads j (after_judging o v f j)
 judged o v f j = then j (after_coming o f.at j) (after_judging o v f j) (came o f.at j) (by (outcome o v f (after_coming o f.at j))) where
+  marks : length j.told ≤ MOST_TOLD → length (after_judging o v f j).told ≤ MOST_TOLD
+  marks few = let k = after_of o v f (after_coming o f.at j) in few_told (knows o f.at k) v k.told (subst (λ (told : List ToldMark). length told ≤ MOST_TOLD) (sym (told_stays o v f (after_coming o f.at j))) few)
+
   by : Same (after_coming o f.at j) (after_judging o v f j) ⊎ Heard o (speaker_in v) (is_answer v f.at j) f.at (after_coming o f.at j) (after_judging o v f j) → Leads (after_coming o f.at j) (after_judging o v f j)
-  by (inl s) = from_same (after_coming o f.at j) (after_judging o v f j) s
-  by (inr h) = from_heard o (speaker_in v) (is_answer v f.at j) f.at (after_coming o f.at j) (after_judging o v f j) h
+  by (inl s) = from_same (after_coming o f.at j) (after_judging o v f j) s marks
+  by (inr h) = from_heard o (speaker_in v) (is_answer v f.at j) f.at (after_coming o f.at j) (after_judging o v f j) h marks
 
 given : (g : Given) (j : Judge) → Leads j (record j { strange = with_given g j.strange })
 given g j = record {
-  bounded = λ b. record { own = b.own; known = b.known; others = b.others; strange = fits_bounded j.strange (with_given g j.strange) (with_given g j.strange) refl (fits_with g j.strange) b.strange };
+  bounded = λ b. record { own = b.own; known = b.known; others = b.others; strange = fits_bounded j.strange (with_given g j.strange) (with_given g j.strange) refl (fits_with g j.strange) b.strange; told = b.told };
   most = (fits_with g j.strange).most;
 }
 
@@ -146,14 +153,15 @@ step (Comes o (Session s sent page marks echoes) f) j = judged o (Session s sent
 step (Comes o (PageState s page marks) f) j = judged o (PageState s page marks) f j
 step (Comes o (Request asker name) f) j = judged o (Request asker name) f j
 step (Comes o (AskPages asker) f) j = judged o (AskPages asker) f j
-step (Reports sent) j = record { bounded = λ b. record { own = joined_length MOST_OWN sent j.own (omega arith) b.own; known = b.known; others = b.others; strange = b.strange }; most = refl }
-step (Tells clock) j = record { bounded = λ b. record { own = b.own; known = b.known; others = b.others; strange = b.strange }; most = refl }
+step (Reports sent) j = record { bounded = λ b. record { own = joined_length MOST_OWN sent j.own (omega arith) b.own; known = b.known; others = b.others; strange = b.strange; told = b.told }; most = refl }
+step (Tells clock) j = record { bounded = λ b. record { own = b.own; known = b.known; others = b.others; strange = b.strange; told = b.told }; most = refl }
 step (Leaves o) j = record {
   bounded = λ b. record {
     own = b.own;
     known = omega (arith, b.known, filter_length (λ (k : KnownOrigin). not (same_origin k.origin o)) j.known);
     others = omega (arith, b.others, filter_length (λ (x : Other). not (same_origin x.origin o)) j.others);
     strange = b.strange;
+    told = b.told;
   };
   most = refl;
 }

@@ -6,6 +6,7 @@ pub mod Sizes
 pub mod Sameness
 pub mod Outcome
 pub mod Members
+pub mod Telling
 pub mod Shared
 pub mod Stepping
 pub mod Bounds

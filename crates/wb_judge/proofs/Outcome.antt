@@ -9,7 +9,7 @@ use Rattle.wb_judge.specs.Aliens.{with_alien}
 use Rattle.wb_judge.specs.Answers.{answers}
 use Rattle.wb_judge.specs.Buckets.{has_room, paid_after}
 use Rattle.wb_judge.specs.Judge.{Judge, is_forged, knows}
-use Rattle.wb_judge.specs.Judging.{after_admitted, after_admitting, after_answer, after_fetching, after_hearing, after_held, after_of, after_own, after_question, after_repair, after_report, after_request, after_said, after_stranger, answering_at, fetching_at, is_fetched, is_forged_mark, is_repaired, is_twin, speaking, with_payment}
+use Rattle.wb_judge.specs.Judging.{after_admitted, after_admitting, after_answer, after_fetching, after_hearing, after_held, after_of, after_own, after_question, after_repair, after_report, after_request, after_said, after_stranger, after_telling, answering_at, fetching_at, is_fetched, is_forged_mark, is_repaired, is_twin, speaking, with_payment}
 use Rattle.wb_judge.specs.Known.{known_from}
 use Rattle.wb_judge.specs.Laws.{is_answer, speaker_in}
 use Rattle.wb_judge.specs.Origins.{same_origin}
@@ -188,10 +188,17 @@ said : (o : Origin) (number : ℕ) (n : Option ℕ) (answer : Bool) (now : ℕ) 
     → Same j (after_said o number j ours theirs) ⊎ Heard o n answer now j (after_said o number j ours theirs)
 said o number n answer now j ours theirs s h = choice (is_forged number o j) o n answer now j j _ (inl (same j)) (choice (nat_eq number j.me) o n answer now j ours theirs (inl s) h)
 
--- a datagram leaves the lists as they were, or a number was heard
-pub outcome : (o : Origin) (v : Datagram) (f : Facts) (j : Judge) → Same j (after_of o v f j) ⊎ Heard o (speaker_in v) (is_answer v f.at j) f.at j (after_of o v f j)
-outcome o (Draw d) f j = inl (same j)
-outcome o (Session s sent page marks echoes) f j = let r = report_of j.me s marks echoes in said o s (Some s) _ f.at j _ _ (owned o sent r f.at j) (reported o r f j)
-outcome o (PageState s page marks) f j = said o s (Some s) _ f.at j _ _ (same j) (reported o (report_of j.me s marks []) f j)
-outcome o (Request asker name) f j = said o asker None _ f.at j _ _ (same j) (inl (request o f j))
-outcome o (AskPages asker) f j = said o asker None _ f.at j _ _ (same j) (inl (question o f.at j))
+judged : (o : Origin) (v : Datagram) (f : Facts) (j : Judge) → Same j (after_of o v f j) ⊎ Heard o (speaker_in v) (is_answer v f.at j) f.at j (after_of o v f j)
+judged o (Draw d) f j = inl (same j)
+judged o (Session s sent page marks echoes) f j = let r = report_of j.me s marks echoes in said o s (Some s) _ f.at j _ _ (owned o sent r f.at j) (reported o r f j)
+judged o (PageState s page marks) f j = said o s (Some s) _ f.at j _ _ (same j) (reported o (report_of j.me s marks []) f j)
+judged o (Request asker name) f j = said o asker None _ f.at j _ _ (same j) (inl (request o f j))
+judged o (AskPages asker) f j = said o asker None _ f.at j _ _ (same j) (inl (question o f.at j))
+
+-- a datagram leaves the lists as they were, or a number was heard; what members told is another list
+pub outcome : (o : Origin) (v : Datagram) (f : Facts) (j : Judge) → Same j (after_telling o v f.at (after_of o v f j)) ⊎ Heard o (speaker_in v) (is_answer v f.at j) f.at j (after_telling o v f.at (after_of o v f j))
+outcome o v f j = told (judged o v f j) where
+  told : Same j (after_of o v f j) ⊎ Heard o (speaker_in v) (is_answer v f.at j) f.at j (after_of o v f j)
+      → Same j (after_telling o v f.at (after_of o v f j)) ⊎ Heard o (speaker_in v) (is_answer v f.at j) f.at j (after_telling o v f.at (after_of o v f j))
+  told (inl s) = inl (record { own = s.own; known = s.known; others = s.others; strange = s.strange })
+  told (inr h) = inr (record { own = h.own; known = h.known; others = h.others; strange = h.strange })

@@ -14,6 +14,7 @@ use Rattle.wb_judge.specs.Laws.{AreStrange, NeverAnswer, Step, StrangersHaveASha
 use Rattle.wb_judge.specs.Laws.{Comes, Leaves, Remembers, Reports, Tells}
 use Rattle.wb_judge.specs.Origins.{same_origin}
 use Rattle.wb_judge.specs.Strange.{has_name, is_given_by, is_over, is_wide, with_given}
+use Rattle.wb_judge.specs.Told.{leaves_holes}
 use Rattle.wb_judge.specs.Verdicts.{dropped, taken, warned}
 use Rattle.wb_judge.specs.declared.facts.Facts.{Facts}
 use Rattle.wb_judge.specs.declared.known.KnownOrigin.{KnownOrigin}
@@ -21,7 +22,7 @@ use Rattle.wb_judge.specs.declared.limits.TheConstants.{SILENCE}
 use Rattle.wb_judge.specs.declared.origin.Origin.{Origin}
 use Rattle.wb_judge.specs.declared.strange.Given.{Given}
 use Rattle.wb_judge.specs.declared.verdict.Warning.TheVariants.{NoCell, NoShare}
-use Rattle.wb_judge.specs.declared.verdict.Why.TheVariants.{Ahead, Full, Own, Pages, Share, Speaks}
+use Rattle.wb_judge.specs.declared.verdict.Why.TheVariants.{Ahead, Full, Holes, Own, Pages, Share, Speaks}
 use Rattle.wb_judge.proofs.Anywhere.{any_filter}
 use Rattle.wb_judge.proofs.Bounds.{shares_stay, state_is_bounded}
 use Rattle.wb_judge.proofs.Members.{only_answers_make_known, stays_known, stays_unknown}
@@ -77,23 +78,23 @@ strange_step some (Remembers name) j unknown silent = unknown
 -- ---- how much is taken in
 
 -- the verdict on what a stranger gives that is not held
-let_in : (forged elsewhere ahead full over shut wide : Bool)
-    → (cond forged (dropped Own) (cond elsewhere (dropped Speaks) (cond ahead (dropped Ahead) (cond full (warned Full NoCell) (cond over (cond shut (warned Share NoShare) (dropped Share)) (cond wide (dropped Pages) taken)))))).why ≡ None → over ≡ false
-let_in true elsewhere ahead full over shut wide e = cc
-let_in false true ahead full over shut wide e = cc
-let_in false false true full over shut wide e = cc
-let_in false false false true over shut wide e = cc
-let_in false false false false true true wide e = cc
-let_in false false false false true false wide e = cc
-let_in false false false false false shut wide e = refl
+let_in : (forged elsewhere ahead full over shut wide holes : Bool)
+    → (cond forged (dropped Own) (cond elsewhere (dropped Speaks) (cond ahead (dropped Ahead) (cond full (warned Full NoCell) (cond over (cond shut (warned Share NoShare) (dropped Share)) (cond wide (dropped Pages) (cond holes (dropped Holes) taken))))))).why ≡ None → over ≡ false
+let_in true elsewhere ahead full over shut wide holes e = cc
+let_in false true ahead full over shut wide holes e = cc
+let_in false false true full over shut wide holes e = cc
+let_in false false false true over shut wide holes e = cc
+let_in false false false false true true wide holes e = cc
+let_in false false false false true false wide holes e = cc
+let_in false false false false false shut wide holes e = refl
 
 -- a stranger's drawop that is handed in and not held has room among theirs
 room_for : (o : Origin) (d : DrawopValue) (f : Facts) (j : Judge) → knows o f.at j ≡ false → f.holds ≡ false → (drawop_verdict o d f j).why ≡ None → length j.strange.given < j.strange.most
 unfolding drawop_verdict is_over is_forged_drawop
 room_for o d f j unknown new why =
-    let over = let_in (is_forged_drawop false d f j) (is_claimed o d.name.source f.at j) (is_ahead false d.time f.at j) (is_full f.held j && (draws d.op || true)) (is_over o j.strange) (nat_lt 0 j.strange.most) (is_wide d.name j.strange) (ruled why) in
+    let over = let_in (is_forged_drawop false d f j) (is_claimed o d.name.source f.at j) (is_ahead false d.time f.at j) (is_full f.held j && (draws d.op || true)) (is_over o j.strange) (nat_lt 0 j.strange.most) (is_wide d.name j.strange) (leaves_holes d.name f.top j.told) (ruled why) in
     leb-false j.strange.most (length j.strange.given) (or_parts (nat_le j.strange.most (length j.strange.given)) (nat_le j.strange.most_of_origin (count_by (is_given_by o) j.strange.given)) over).0 where
-      ruled : (drawop_verdict o d f j).why ≡ None → (cond (is_forged_drawop false d f j) (dropped Own) (cond (is_claimed o d.name.source f.at j) (dropped Speaks) (cond (is_ahead false d.time f.at j) (dropped Ahead) (cond (is_full f.held j && (draws d.op || true)) (warned Full NoCell) (cond (is_over o j.strange) (cond (nat_lt 0 j.strange.most) (warned Share NoShare) (dropped Share)) (cond (is_wide d.name j.strange) (dropped Pages) taken)))))).why ≡ None
+      ruled : (drawop_verdict o d f j).why ≡ None → (cond (is_forged_drawop false d f j) (dropped Own) (cond (is_claimed o d.name.source f.at j) (dropped Speaks) (cond (is_ahead false d.time f.at j) (dropped Ahead) (cond (is_full f.held j && (draws d.op || true)) (warned Full NoCell) (cond (is_over o j.strange) (cond (nat_lt 0 j.strange.most) (warned Share NoShare) (dropped Share)) (cond (is_wide d.name j.strange) (dropped Pages) (cond (leaves_holes d.name f.top j.told) (dropped Holes) taken))))))).why ≡ None
       ruled e = rw (new, unknown) at e
 
 pub none_of : {X : Type 0} (o : Option X) → is_none o ≡ true → o ≡ None

@@ -13,11 +13,12 @@ use Rattle.wb_judge.specs.declared.limits.TheConstants.{RESERVE}
 use Rattle.wb_judge.specs.declared.origin.Origin.{Origin}
 use Rattle.wb_judge.specs.declared.others.Other.{Other}
 use Rattle.wb_judge.specs.declared.strange.Given.{Given}
+use Rattle.wb_judge.specs.declared.told.ToldMark.{ToldMark}
 
 -- Our number, the cells of our board and the owner of our own origin; the time of day; the moments of our reports; the origins that are known, the
--- numbers that were heard, and what is held of strangers; the last reports under our number that are not ours; up to which moments new numbers,
--- new numbers that answer, questions of strangers and repairs for members are paid for, and for which of these the last one was; before which
--- moment no stream begins; and whether somebody has our number too.
+-- numbers that were heard, what is held of strangers, and the marks that members told; the last reports under our number that are not ours; up to
+-- which moments new numbers, new numbers that answer, questions of strangers and repairs for members are paid for, and for which of these the last
+-- one was; before which moment no stream begins; and whether somebody has our number too.
 pub record Judge : Type 0 where
   pub me : ℕ
   pub cells : ℕ
@@ -27,6 +28,7 @@ pub record Judge : Type 0 where
   pub known : List KnownOrigin
   pub others : List Other
   pub strange : Shares
+  pub told : List ToldMark
   pub aliens : List Alien
   pub hearing : ℕ
   pub answering : ℕ
@@ -46,6 +48,7 @@ opened me cells now wall here strangers = record {
   known = [];
   others = [];
   strange = no_shares cells strangers;
+  told = [];
   aliens = [];
   hearing = 0;
   answering = 0;

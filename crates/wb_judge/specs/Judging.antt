@@ -17,6 +17,7 @@ use Rattle.wb_judge.specs.Origins.{same_origin}
 use Rattle.wb_judge.specs.Others.{has_speaker, is_bound_elsewhere, other_of, other_with, spoken}
 use Rattle.wb_judge.specs.Reports.{report_of}
 use Rattle.wb_judge.specs.Strange.{is_over, is_there, is_wide, without_origin}
+use Rattle.wb_judge.specs.Told.{leaves_holes, with_report}
 use Rattle.wb_judge.specs.Verdicts.{dropped, taken, warned}
 use Rattle.wb_judge.specs.declared.facts.Facts.{Facts}
 use Rattle.wb_judge.specs.declared.limits.TheConstants.{AHEAD_KNOWN, AHEAD_STRANGER, ASKED_AHEAD, ASKED_PAUSE, FETCH_AGAIN, FETCH_PAUSE, FORGED_ABOVE, LACKING, NEW_AHEAD, NEW_OF_ONE, NEW_PAUSE, REPAIRS_AHEAD, REPAIRS_OF_ONE, REPAIR_PAUSE}
@@ -26,7 +27,7 @@ use Rattle.wb_judge.specs.declared.report.Report.{Report}
 use Rattle.wb_judge.specs.declared.verdict.Verdict.{Verdict}
 use Rattle.wb_judge.specs.declared.verdict.Warning.{Warning}
 use Rattle.wb_judge.specs.declared.verdict.Warning.TheVariants.{ForgedMark, Impostor, NoCell, NoShare, Twin}
-use Rattle.wb_judge.specs.declared.verdict.Why.TheVariants.{Again, Ahead, Crowd, Flood, Full, Mark, Own, Pages, Share, Speaks, Stranger}
+use Rattle.wb_judge.specs.declared.verdict.Why.TheVariants.{Again, Ahead, Crowd, Flood, Full, Holes, Mark, Own, Pages, Share, Speaks, Stranger}
 
 -- ---- a drawop
 
@@ -59,6 +60,7 @@ drawop_verdict o d f j = let known = knows o f.at j in
     else if is_full f.held j && (draws d.op || not known) then warned Full NoCell
     else if not known && is_over o j.strange then (if nat_lt 0 j.strange.most then warned Share NoShare else dropped Share)
     else if not known && is_wide d.name j.strange then dropped Pages
+    else if not known && leaves_holes d.name f.top j.told then dropped Holes
     else taken
 
 -- ---- a question for pages, and a request
@@ -252,5 +254,9 @@ after_coming o now j = record j { known = renewed o now j.known }
 abbrev pub verdict : Origin → Datagram → Facts → Judge → Verdict
 verdict o v f j = verdict_of o v f (after_coming o f.at j)
 
+-- a member's report tells its marks
+abbrev pub after_telling : Origin → Datagram → ℕ → Judge → Judge
+after_telling o v now j = record j { told = if knows o now j then with_report v j.told else j.told }
+
 abbrev pub after_judging : Origin → Datagram → Facts → Judge → Judge
-after_judging o v f j = after_of o v f (after_coming o f.at j)
+after_judging o v f j = after_telling o v f.at (after_of o v f (after_coming o f.at j))

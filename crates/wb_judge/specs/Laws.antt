@@ -14,10 +14,11 @@ use Rattle.wb_judge.specs.Judge.{Judge, after_leaving, after_taking, is_another,
 use Rattle.wb_judge.specs.Judging.{after_admitting, after_judging, draws, is_admitted, is_heard, verdict}
 use Rattle.wb_judge.specs.Others.{has_speaker, is_bound_elsewhere, other_of}
 use Rattle.wb_judge.specs.Reports.{echo_to}
-use Rattle.wb_judge.specs.Strange.{has_name, is_given_by, is_there, with_given}
+use Rattle.wb_judge.specs.Strange.{has_name, is_given_by, is_there, row_of, with_given}
+use Rattle.wb_judge.specs.Told.{was_told}
 use Rattle.wb_judge.specs.declared.aliens.Alien.{Alien}
 use Rattle.wb_judge.specs.declared.facts.Facts.{Facts}
-use Rattle.wb_judge.specs.declared.limits.TheConstants.{AHEAD_KNOWN, ASKED_AHEAD, ASKED_PAUSE, MOST_ALIENS, MOST_KNOWN, MOST_OTHERS, MOST_OWN, REPAIRS_AHEAD, REPAIRS_OF_ONE, REPAIR_PAUSE}
+use Rattle.wb_judge.specs.declared.limits.TheConstants.{AHEAD_KNOWN, ASKED_AHEAD, ASKED_PAUSE, MOST_ALIENS, MOST_KNOWN, MOST_OTHERS, MOST_OWN, MOST_TOLD, REPAIRS_AHEAD, REPAIRS_OF_ONE, REPAIR_PAUSE}
 use Rattle.wb_judge.specs.declared.origin.Origin.{Origin}
 use Rattle.wb_judge.specs.declared.others.Other.{Other}
 use Rattle.wb_judge.specs.declared.strange.Given.{Given}
@@ -101,6 +102,16 @@ NamesCountOnce = (g : Given) (j : Judge) → StandOnce j.strange.given → Stand
 abbrev pub StrangersHushNobody : Type 0
 StrangersHushNobody = (o : Origin) (d : DrawopValue) (f : Facts) (j : Judge) → knows o f.at j ≡ false → f.holds ≡ true
     → (verdict o (Draw d) f j).why ≡ Some Again
+
+-- What a stranger gives that is new is the next of its source on its page, or an earlier one: it leaves no number missing. But where a member told a
+-- number as high, those below it exist.
+abbrev pub StrangersLeaveNoHoles : Type 0
+StrangersLeaveNoHoles = (o : Origin) (d : DrawopValue) (f : Facts) (j : Judge) → knows o f.at j ≡ false → f.holds ≡ false → (verdict o (Draw d) f j).why ≡ None
+    → was_told (row_of d.name) d.name.seq j.told ≡ false → d.name.seq ≤ f.top + 1
+
+-- And only members tell: a datagram of a stranger tells nothing.
+abbrev pub OnlyMembersTell : Type 0
+OnlyMembersTell = (o : Origin) (v : Datagram) (f : Facts) (j : Judge) → knows o f.at (after_judging o v f j) ≡ false → (after_judging o v f j).told ≡ j.told
 
 -- ---- firm names
 
@@ -223,6 +234,7 @@ pub record IsBounded (j : Judge) : Type 0 where
   pub known : length j.known ≤ MOST_KNOWN
   pub others : length j.others ≤ MOST_OTHERS
   pub strange : length j.strange.given ≤ j.strange.most
+  pub told : length j.told ≤ MOST_TOLD
 
 abbrev pub StateIsBounded : Type 0
 StateIsBounded = (steps : List Step) (j : Judge) → IsBounded j → IsBounded (after_steps steps j)

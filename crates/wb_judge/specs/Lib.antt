@@ -8,6 +8,7 @@ pub mod Firm
 pub mod Shares
 pub mod Strange
 pub mod Holding
+pub mod Told
 pub mod Verdicts
 pub mod Reports
 pub mod Aliens

@@ -15,7 +15,8 @@ pub struct Facts {
     /// Whether the drawop that came has a number above all of ours on its page that are held or were
     /// heard of.
     pub above: bool,
-    /// The greatest number of ours that it holds on the page of a report, or 0.
+    /// The greatest number that it holds, or 0: of ours on the page of a report; of the source of a
+    /// drawop on its page.
     pub top: u32,
     /// How many numbers up to the marks of a report it does not hold.
     pub lacking: u64,

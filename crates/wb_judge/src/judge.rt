@@ -20,6 +20,7 @@ use crate::others::{Other, Others};
 use crate::own_reports::OwnReports;
 use crate::pages::{Rank, rank_of};
 use crate::strange::{Given, Strange};
+use crate::told::Told;
 use std::alloc::{AllocError, Global};
 use std::marker::Model;
 use wb_names::{Echo, Name};
@@ -64,6 +65,7 @@ pub struct Judge {
     known: Known,
     others: Others,
     strange: Strange,
+    told: Told,
     aliens: Aliens,
     hearing: Bucket,
     answering: Bucket,
@@ -88,6 +90,7 @@ impl Model for Judge {
       known = j.known;
       others = j.others;
       strange = j.strange;
+      told = j.told;
       aliens = j.aliens;
       hearing = j.hearing.paid;
       answering = j.answering.paid;
@@ -120,6 +123,7 @@ impl Judge {
             known: Known::new(alloc)?,
             others: Others::new(alloc)?,
             strange: Strange::new(alloc, cells, strangers)?,
+            told: Told::new(alloc)?,
             aliens: Aliens::new(alloc)?,
             hearing: Bucket::WHOLE,
             answering: Bucket::WHOLE,

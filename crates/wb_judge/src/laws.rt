@@ -2,9 +2,9 @@
 //! stands here for its clause.
 
 ghost use Rattle.std.specs.Prelude.{◌≡◌, ◌^◌};
-ghost use Rattle.wb_judge.specs.declared.limits.TheConstants.{AHEAD_KNOWN, AHEAD_STRANGER, ASKED_AHEAD, ASKED_PAUSE, DRIFT, FIRM_TIME, FRESH, LEAST_SHARE, MOST_ALIENS, MOST_KNOWN, MOST_OTHERS, MOST_OWN, MOST_SHARING, OF_ORIGIN, PATIENCE, REPAIRS_AHEAD, REPAIRS_OF_ONE, REPAIR_PAUSE, RESERVE, SILENCE, STRANGERS, STRANGE_PAGES, STRANGE_ROWS, TIME_LIMIT};
+ghost use Rattle.wb_judge.specs.declared.limits.TheConstants.{AHEAD_KNOWN, AHEAD_STRANGER, ASKED_AHEAD, ASKED_PAUSE, DRIFT, FIRM_TIME, FRESH, LEAST_SHARE, MOST_ALIENS, MOST_KNOWN, MOST_OTHERS, MOST_OWN, MOST_SHARING, MOST_TOLD, OF_ORIGIN, PATIENCE, REPAIRS_AHEAD, REPAIRS_OF_ONE, REPAIR_PAUSE, RESERVE, SILENCE, STRANGERS, STRANGE_PAGES, STRANGE_ROWS, TIME_LIMIT};
 ghost use Rattle.wb_judge.specs.Members.{KnownAgain, KnownBeside, MembersAreHeard, NumbersBeside, RequestsArePaidFor, RequestsHaveRoom};
-ghost use Rattle.wb_judge.specs.Laws.{AMemberIsNotDropped, AliensStay, ClaimsBindNobody, FewAreTaken, NamesCountOnce, NamesTakeTurns, NewcomersHaveRoom, NobodyHushesFirmNames, NumbersStay, OnlyAnswersMakeKnown, OwnersStay, RepairsAreFew, RepairsAreShared, ReplayIsNoTwin, SharesStay, StateIsBounded, StaysStrange, StrangersAreFew, StrangersHaveAShare, StrangersHushNobody, TurnsAreFew, VouchesForNobody};
+ghost use Rattle.wb_judge.specs.Laws.{AMemberIsNotDropped, AliensStay, ClaimsBindNobody, FewAreTaken, NamesCountOnce, NamesTakeTurns, NewcomersHaveRoom, NobodyHushesFirmNames, NumbersStay, OnlyAnswersMakeKnown, OnlyMembersTell, OwnersStay, RepairsAreFew, RepairsAreShared, ReplayIsNoTwin, SharesStay, StateIsBounded, StaysStrange, StrangersAreFew, StrangersHaveAShare, StrangersHushNobody, StrangersLeaveNoHoles, TurnsAreFew, VouchesForNobody};
 
 /// An origin becomes known by an answer that came from there, and by nothing else. A number that
 /// has answered us stays where it speaks, while it speaks, until it answers from elsewhere.
@@ -70,6 +70,14 @@ pub fn strangers_hush_nobody()
     ensures few { FewAreTaken }
 {}
 
+/// A drawop of a stranger that is taken in is the next of its source on its page, or an earlier one,
+/// so it leaves no number missing, unless a member told a number as high. What strangers report
+/// tells nothing.
+pub fn strangers_leave_no_holes()
+    ensures holes { StrangersLeaveNoHoles }
+    ensures told { OnlyMembersTell }
+{}
+
 /// Of a name that is firm here nothing that others send hushes us: a copy of what is held ends no
 /// answer of ours, and a request for what is not held backs none of ours off. Each name is firm for
 /// two seconds, in one of as many turns as the members that are here make it.
@@ -105,10 +113,10 @@ pub fn noise_hides_no_twin()
     ensures { AliensStay }
 {}
 
-/// How many moments of ours, origins and numbers are remembered; the limit of times; and by how many
+/// How many moments of ours, origins, numbers and told marks are remembered; the limit of times; and by how many
 /// others names take turns at being firm, at most.
 pub fn limits()
-    ensures remembered { (MOST_OWN ≡ 256) × (MOST_KNOWN ≡ 1024) × (MOST_OTHERS ≡ 1024) × (MOST_ALIENS ≡ 8) }
+    ensures remembered { (MOST_OWN ≡ 256) × (MOST_KNOWN ≡ 1024) × (MOST_OTHERS ≡ 1024) × (MOST_ALIENS ≡ 8) × (MOST_TOLD ≡ 1024) }
     ensures time { TIME_LIMIT ≡ 2 ^ 62 }
     ensures sharing { MOST_SHARING ≡ 31 }
 {}

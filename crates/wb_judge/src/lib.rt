@@ -13,7 +13,7 @@
 //! In reading order: `limits` has the numbers; `origin` says where datagrams come from; `bucket`
 //! takes some at once and then one in each pause; `own_reports` are our moments, and who answers
 //! us; `aliens` are reports under our number; `known`, `others` and `strange` are the origins that are known, the numbers that were heard,
-//! and the share of strangers; `pages` lists pages; `report`, `facts` and `verdict` say what is
+//! and the share of strangers; `told` are the marks that members told; `pages` lists pages; `report`, `facts` and `verdict` say what is
 //! judged and what becomes of it; `judge` joins them. `laws` says what follows.
 #![tactic(auto)]
 
@@ -33,6 +33,7 @@ mod pages;
 mod report;
 mod rows;
 mod strange;
+mod told;
 mod verdict;
 
 pub use aliens::{Alien, Aliens};
@@ -49,4 +50,5 @@ pub use pages::{Listed, Rank, put_in_order};
 pub use report::Report;
 pub use rows::Row;
 pub use strange::{Given, Strange};
+pub use told::{Told, ToldMark};
 pub use verdict::{Verdict, Warning, Why};

@@ -42,6 +42,9 @@ pub const STRANGE_PAGES: usize = 16;
 /// The most sources that such drawops have, summed over the pages.
 pub const STRANGE_ROWS: usize = 256;
 
+/// The most marks that are remembered of those that members told.
+pub const MOST_TOLD: usize = 1_024;
+
 /// One cell in `RESERVE` is kept for deletes and restores of members.
 pub const RESERVE: u32 = 32;
 

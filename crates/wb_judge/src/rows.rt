@@ -34,11 +34,18 @@ fn has_page(pages: &[PageId], page: PageId) -> bool
     pages.iter().any(|other| *other == page)
 }
 
+/// Whether two are the same source on the same page.
+pub(crate) fn is_row(one: Row, other: Row) -> bool
+    ensures { result ≡ same_row one other }
+{
+    one.source == other.source && one.page == other.page
+}
+
 /// Whether a source on a page is among some.
 fn has_row(rows: &[Row], row: Row) -> bool
     ensures { result ≡ list_any (λ r. same_row r row) rows.now }
 {
-    rows.iter().any(|other| other.source == row.source && other.page == row.page)
+    rows.iter().any(|other| is_row(*other, row))
 }
 
 /// Adds a page, unless it is among some. There is room for it.

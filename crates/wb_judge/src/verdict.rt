@@ -32,6 +32,9 @@ pub enum Why {
     /// No known origin gave it, and it would add a page, or a source on a page, beyond what
     /// strangers may have.
     Pages,
+    /// No known origin gave it, and it would leave numbers of its source missing below it, of which
+    /// no member told.
+    Holes,
 }
 
 /// What people are to be warned of.

@@ -12,7 +12,7 @@ use Rattle.wb_codec.specs.declared.datagram.Datagram.TheVariants.{AskPages, Draw
 use Rattle.wb_keeper.specs.Keeper.{sender_of}
 use Rattle.wb_judge.specs.Answers.{answers}
 use Rattle.wb_judge.specs.Judge.{Judge, is_forged}
-use Rattle.wb_judge.specs.Judging.{admitted_verdict, after_admitted, after_admitting, after_answer, after_coming, after_fetching, after_hearing, after_of, after_own, after_report, answering_at, fetching_at, is_admitted, is_elsewhere, is_fetched, is_forged_mark, own_verdict, report_verdict, speaking, verdict_of}
+use Rattle.wb_judge.specs.Judging.{admitted_verdict, after_admitted, after_admitting, after_answer, after_coming, after_fetching, after_hearing, after_of, after_own, after_report, after_telling, answering_at, fetching_at, is_admitted, is_elsewhere, is_fetched, is_forged_mark, own_verdict, report_verdict, speaking, verdict_of}
 use Rattle.wb_judge.specs.Members.{IsSpoken, Speaks}
 use Rattle.wb_judge.specs.Origins.{same_origin}
 use Rattle.wb_judge.specs.Others as numbers
@@ -174,10 +174,10 @@ answers_make_known now o number (Session s sent page marks echoes) h speaks is l
       j : Judge
       j = after_coming o now h.judge
 
-      after : judge_after now o v h ≡ after_hearing o s true f.lacking now (after_admitting o s true now j)
-      after =
+      after : judge_after now o v h ≡ after_telling o v now (after_hearing o s true f.lacking now (after_admitting o s true now j))
+      after = ap (after_telling o v now) (
           after_let_in o s sent page marks echoes f j (let_in o s sent page marks echoes f j (handed_why now v (verdict_on now o v h).why lets))
-          ∙ ap (λ (b : Bool). after_hearing o s b f.lacking now (after_admitting o s b now j)) is
+          ∙ ap (λ (b : Bool). after_hearing o s b f.lacking now (after_admitting o s b now j)) is)
 
       made : IsKnownSince o s now (judge_after now o v h)
       made = record {

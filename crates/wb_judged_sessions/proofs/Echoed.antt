@@ -19,7 +19,6 @@ use Rattle.wb_judge.specs.Adding.{own_echo}
 use Rattle.wb_member.specs.Judged.{echoes}
 use Rattle.wb_member.specs.Opened.{Opened, opened_with, present}
 use Rattle.wb_member.specs.declared.calls.Call.TheVariants as calls
-use Rattle.wb_policy.specs.Choices.{last_heard}
 use Rattle.wb_keeping.specs.Kept.{Calls, ticks_at}
 use Rattle.wb_keeping.specs.Laws.{doing_of, fault_of}
 use Rattle.wb_keeping.specs.Performing.{after_doing, after_line, after_lines, sees, sent_by_doing}
@@ -42,7 +41,8 @@ use Rattle.wb_judged_sessions.specs.Sessions.{JudgedCall, JudgedCallAt, Starts, 
 use Rattle.wb_judged_sessions.specs.Terms.{AreTaken, IsTaken}
 use Rattle.wb_judged_sessions.proofs.Records.{number_at}
 use Rattle.wb_judged_sessions.proofs.Sent.{echo_mine}
-use Rattle.wb_judged_sessions.proofs.TakenIn.{CallTells, IsQuiet, IsTimed, call_tells, lines_same, moment_in, newest_of, quiet_lines, senders}
+use Rattle.wb_judged_sessions.proofs.TakenIn.{CallTells, IsQuiet, IsTimed, call_tells, lines_same, moment_in, newest_of, quiet_lines, senders, AreEchoedBy}
+use Rattle.wb_policy.specs.Choices.{echoed}
 use Rattle.wb_judged_sessions.proofs.Terms.{fault_none, own_at}
 
 -- ---- a judged member
@@ -144,9 +144,9 @@ plain_of own (AskPages asker) s moment page marks es e = absurd cc
 plain_of own (PageState t p ms) s moment page marks es e = absurd cc
 
 -- what an echo of a member says of another
-remembered : (number : ℕ) (host : Opened) (e : Echo) → Contains (last_heard (echoes host)) e → e.source ≡ number
+remembered : (number : ℕ) (host : Opened) (known : ℕ → Bool) (from : ℕ) (e : Echo) → Contains (echoed known from (echoes host)) e → e.source ≡ number
     → (h : Heard) × (newest_of number host ≡ Some h) × (e.sent ≡ h.sent) × (e.held ≡ present host - h.at)
-remembered number host e c source =
+remembered number host known from e c source =
     let listed = echoes_listed host.is.number host.is.calls (present host) in
     let is = (listed.members e).0 (Contains-from_filter _ (echoes host) e c).0 in
     (is.0, subst (λ (n : ℕ). newest_of n host ≡ Some is.0) source (if_some _ (newest_of e.source host) is.0 is.1), is.2, is.3) where
@@ -171,9 +171,9 @@ reported line h s moment page marks es c =
     let p = plain_of echo r.1 s moment page marks es r.4 in
     record { plain = p.plain; among = subst (λ (w : Datagram). Contains said w) p.is (r.0, r.2, r.3); echoed = p.echoed }
 
--- it names the moment of the line, and echoes who was heard last
+-- it names the moment of the line, and echoes senders that are remembered
 module _ (line : Call) (h : Judged) (s moment : ℕ) (page : PageId) (marks : List MarkValue) (es : List Echo) (none : fault_of (handed line h) h.kept ≡ None) (r : IsReported line h s moment page marks es) where
-  told : (there : Opened) × (moment ≡ moment_in (handed line h)) × (r.plain ≡ last_heard (echoes there))
+  told : (there : Opened) × (moment ≡ moment_in (handed line h)) × AreEchoedBy there r.plain
   told = let t = (call_tells number (handed line h) h.kept (next h.kept.host.is.number) (timed_line line h).0).said s moment page marks r.plain none r.among in (t.0, t.1, t.2) where
     number : ℕ
     number = 1 + h.kept.host.is.number
@@ -184,7 +184,7 @@ module _ (line : Call) (h : Judged) (s moment : ℕ) (page : PageId) (marks : Li
   pub report_moment : moment ≡ moment_of line h
   report_moment = told.1 ∙ (timed_line line h).1
 
-  pub report_echoes : (there : Opened) × (r.plain ≡ last_heard (echoes there))
+  pub report_echoes : (there : Opened) × AreEchoedBy there r.plain
   report_echoes = (told.0, told.2)
 
 pub taken_line : (numbers : ℕ → ℕ) (older : List JudgedCallAt) (e : JudgedCallAt) (line : Call) → AreTaken numbers (e ∷ older) → e.call ≡ Takes line
@@ -212,7 +212,7 @@ last_taken_is_echoed numbers older e line number sender moment page marks es ech
       tells : CallTells number (handed line h) h.kept
       tells = call_tells number (handed line h) h.kept (ap (nat_eq number) (number_at numbers older e.place) ∙ apart) (timed_line line h).0
 
-      said : (there : Opened) × (moment ≡ moment_in (handed line h)) × (r.plain ≡ last_heard (echoes there)) × (newest_of number there ≡ newest_of number (after_doing (doing_of (handed line h)) h.kept).host) × (present there ≡ moment)
+      said : (there : Opened) × (moment ≡ moment_in (handed line h)) × AreEchoedBy there r.plain × (newest_of number there ≡ newest_of number (after_doing (doing_of (handed line h)) h.kept).host) × (present there ≡ moment)
           × (length (senders there) ≤ length (senders (after_doing (doing_of (handed line h)) h.kept).host))
       said = tells.said sender moment page marks r.plain (taken_line numbers older e line taken takes) r.among
 
@@ -227,7 +227,7 @@ last_taken_is_echoed numbers older e line number sender moment page marks es ech
       among = unplaced number own r.plain echo mine (eqb-true echo.source number f.1) (subst (λ (fs : List Echo). Contains fs echo) r.echoed f.0)
 
       it : (g : Heard) × (newest_of number said.0 ≡ Some g) × (echo.sent ≡ g.sent) × (echo.held ≡ present said.0 - g.at)
-      it = remembered number said.0 echo (subst (λ (fs : List Echo). Contains fs echo) said.2 among) (eqb-true echo.source number f.1)
+      it = remembered number said.0 said.2.known said.2.from echo (subst (λ (fs : List Echo). Contains fs echo) said.2.is among) (eqb-true echo.source number f.1)
 
       after : judged_at numbers (e ∷ older) e.place ≡ after_judged line h
       after = ap (λ (b : Bool). cond b (after_call e.call h) h) (eq-eqb e.place e.place refl) ∙ ap (λ (call : JudgedCall). after_call call h) takes

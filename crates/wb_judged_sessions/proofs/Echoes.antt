@@ -22,7 +22,6 @@ use Rattle.wb_keeper.proofs.FirstSenders.{first_senders_are_echoed}
 use Rattle.wb_keeper.proofs.OneMessage.{echo_total}
 use Rattle.wb_member.specs.Judged.{echoes}
 use Rattle.wb_member.specs.Opened.{Opened, present}
-use Rattle.wb_policy.specs.Choices.{last_heard}
 use Rattle.wb_policy.specs.Policy.{Policy}
 use Rattle.wb_keeping.specs.Kept.{Line}
 use Rattle.wb_keeping.specs.Laws.{KeptLine, doing_of, fault_of}
@@ -35,6 +34,8 @@ use Rattle.wb_kept_progress.proofs.Counted.{echoes_listed}
 use Rattle.wb_kept_progress.proofs.Lines.{lines_of}
 use Rattle.wb_laws_machines.specs.Maps.{plain}
 use Rattle.wb_judged_sessions.proofs.Plain.{of_others}
+use Rattle.wb_policy.specs.Choices.{echoed}
+use Rattle.wb_keeping.specs.Views.{is_known}
 use Rattle.wb_judged_sessions.proofs.SaidOnly.{SaysOnly, lines_send, want_says}
 
 -- ---- lists of echoes of others, in order
@@ -131,10 +132,10 @@ heard_other me (Hear now (Session sender sent page marks es) word held) source h
 heard_other me (Hear now v word held) source h e = absurd (none_if (is_own me v) (source, h) e)
 heard_other me call source h e = absurd (none-some (source, h) e)
 
-echoes_others : (host : Opened) → AreOthers host.is.number (last_heard (echoes host))
-echoes_others host =
+echoes_others : (host : Opened) (known : ℕ → Bool) (from : ℕ) → AreOthers host.is.number (echoed known from (echoes host))
+echoes_others host known from =
     let listed = echoes_listed host.is.number host.is.calls (present host) in
-    are_others host.is.number (last_heard (echoes host)) (IsStrictlySortedBy-filter echo_cmp _ (echoes host) listed.rising)
+    are_others host.is.number (echoed known from (echoes host)) (IsStrictlySortedBy-filter echo_cmp _ (echoes host) listed.rising)
     (λ e c.
     let r = (listed.members e).0 (Contains-from_filter _ (echoes host) e c).0 in
     let latest = ((first_senders_are_echoed host.is.number host.is.calls e.source r.0).0 r.1).1 in
@@ -188,7 +189,7 @@ steps_say = record {
     beats = λ k due. plainly k [] _ tt;
     answers = λ k is. plainly k _ _ (states_each (SaysOnly (IsOfMember k.host.is.number)) (view_of k.host) (λ page. refl) (take 64 (pages_of k.host.is.held)));
     asks_pages = λ k is. plainly k _ _ (refl, tt);
-    reports = λ page until told k is. plainly k _ _ ((refl, echoes_others k.host), tt);
+    reports = λ page until told k is. plainly k _ _ ((refl, echoes_others k.host (is_known (view_of k.host)) k.policy.echoed), tt);
   };
   ticks = λ now k later. plainly k _ k.policy (tt, tt);
   arrives = λ d k free. plainly k _ k.policy (tt, tt);

@@ -12,6 +12,7 @@ use Rattle.wb_judge.specs.Judging.{drawop_verdict, is_ahead, is_forged_drawop}
 use Rattle.wb_judge.specs.Known.{is_known}
 use Rattle.wb_judge.specs.Others.{is_bound_elsewhere}
 use Rattle.wb_judge.specs.Strange.{is_over, is_wide, with_given, without_name}
+use Rattle.wb_judge.specs.Told.{leaves_holes}
 use Rattle.wb_member.specs.Opened.{present}
 use Rattle.wb_member.specs.Random.{after_word, started as random_started, word_of}
 use Rattle.wb_policy.specs.Choices.{near_names}
@@ -45,17 +46,17 @@ held_there = refl
 
 held_here : (judged_at numbers heard 1).kept.host.is.held ≡ drawing ∷ []
 unfolding random_started word_of after_word words.started report_of gaps_of pages_of near_names after_kept_line sent_by_kept_line
-    verdict_on judge_after drawop_verdict is_forged_drawop is_known is_firm_beside is_bound_elsewhere is_ahead is_over is_wide with_given without_name
+    verdict_on judge_after drawop_verdict is_forged_drawop is_known is_firm_beside is_bound_elsewhere is_ahead is_over is_wide leaves_holes with_given without_name
 held_here = refl
 
 held_again : (judged_at numbers again 1).kept.host.is.held ≡ drawing ∷ []
 unfolding random_started word_of after_word words.started report_of gaps_of pages_of near_names after_kept_line sent_by_kept_line
-    verdict_on judge_after drawop_verdict is_forged_drawop is_known is_firm_beside is_bound_elsewhere is_ahead is_over is_wide with_given without_name
+    verdict_on judge_after drawop_verdict is_forged_drawop is_known is_firm_beside is_bound_elsewhere is_ahead is_over is_wide leaves_holes with_given without_name
 held_again = refl
 
 told : file_at numbers heard 1 ≡ file
 unfolding random_started word_of after_word words.started report_of gaps_of pages_of near_names after_kept_line sent_by_kept_line
-    verdict_on judge_after drawop_verdict is_forged_drawop is_known is_firm_beside is_bound_elsewhere is_ahead is_over is_wide with_given without_name
+    verdict_on judge_after drawop_verdict is_forged_drawop is_known is_firm_beside is_bound_elsewhere is_ahead is_over is_wide leaves_holes with_given without_name
 told = refl
 
 -- ---- what is asked of a session
@@ -69,12 +70,12 @@ moment_there = refl
 
 all_taken : AreTaken numbers again
 unfolding random_started word_of after_word words.started report_of gaps_of pages_of near_names after_kept_line sent_by_kept_line
-    verdict_on judge_after drawop_verdict is_forged_drawop is_known is_firm_beside is_bound_elsewhere is_ahead is_over is_wide with_given without_name
+    verdict_on judge_after drawop_verdict is_forged_drawop is_known is_firm_beside is_bound_elsewhere is_ahead is_over is_wide leaves_holes with_given without_name
 all_taken = ((is_opening 3 7, (refl, (refl, tt))), (omega arith, (refl, ((is_opening 2 1, tt), ((is_opening 1 1, tt), tt)))))
 
 brought : brought_by (Takes (CameFrom 4 somewhere (Draw drawing))) (judged_at numbers drawn 1) ≡ drawing ∷ []
 unfolding random_started word_of after_word words.started report_of gaps_of pages_of near_names after_kept_line sent_by_kept_line
-    verdict_on judge_after drawop_verdict is_forged_drawop is_known is_firm_beside is_bound_elsewhere is_ahead is_over is_wide with_given without_name
+    verdict_on judge_after drawop_verdict is_forged_drawop is_known is_firm_beside is_bound_elsewhere is_ahead is_over is_wide leaves_holes with_given without_name
 brought = refl
 
 first : 0 < 1
@@ -147,7 +148,7 @@ all_know = (
 
 cells_here : 8 ≡ (judged_at numbers heard 1).kept.host.is.cells
 unfolding random_started word_of after_word words.started report_of gaps_of pages_of near_names after_kept_line sent_by_kept_line
-    verdict_on judge_after drawop_verdict is_forged_drawop is_known is_firm_beside is_bound_elsewhere is_ahead is_over is_wide with_given without_name
+    verdict_on judge_after drawop_verdict is_forged_drawop is_known is_firm_beside is_bound_elsewhere is_ahead is_over is_wide leaves_holes with_given without_name
 cells_here = refl
 
 all_files : KeepFiles numbers again

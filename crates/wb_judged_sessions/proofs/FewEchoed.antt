@@ -1,12 +1,11 @@
 -- A member that remembers few senders echoes them all.
-use Rattle.std.proofs.Common.{◌≡◌, ◌∙◌, ◌≤◌, ◌<◌, ◌+◌, ℕ, Bool, true, false, cond, List, [], ◌∷◌, ◌++◌, ap, arith, eqb-true, filter, length, refl, subst, sym, true≢false, ⊎_elim}
+use Rattle.std.proofs.Common.{◌≡◌, ◌∙◌, ◌≤◌, ◌+◌, ℕ, Bool, true, false, cond, List, [], ◌∷◌, ◌++◌, ap, arith, eqb-true, filter, length, refl, subst, sym, true≢false, ⊎_elim}
 use Rattle.std.specs.Prelude.{◌-◌, ◌||◌, Contains, Option, None, Some, is_some, nat_eq, nat_le, nat_lt}
-use Rattle.std.specs.List.{count_by, filter_map, find, list_any}
+use Rattle.std.specs.List.{filter_map, find, list_any}
 use Rattle.std.specs.Option.{option_or}
-use Rattle.std.proofs.lemmas.Bool.{eq-eqb, false_from_ne_true, leb-true, lt-ltb}
+use Rattle.std.proofs.lemmas.Bool.{eq-eqb, false_from_ne_true, leb-true}
 use Rattle.std.proofs.lemmas.Bool.Decides.{nat_tests}
 use Rattle.std.proofs.lemmas.List.Elements.{Contains-append_left, Contains-append_right}
-use Rattle.std.proofs.lemmas.List.Recursion.{is_count_by}
 use Rattle.std.proofs.lemmas.Option.{none-some}
 use Rattle.std.proofs.Math.Bool.{or-true}
 use Rattle.wb_names.specs.declared.echo.Echo.{Echo}
@@ -20,8 +19,7 @@ use Rattle.wb_judge.specs.Adding.{own_echo}
 use Rattle.wb_judge.specs.Reports.{echo_to}
 use Rattle.wb_member.specs.Judged.{echoes}
 use Rattle.wb_member.specs.Opened.{Opened, present}
-use Rattle.wb_policy.specs.Choices.{heard_later, last_heard}
-use Rattle.wb_policy.proofs.Latest.{itself}
+use Rattle.wb_policy.proofs.Echoing.{all_of_few}
 use Rattle.wb_keeping.specs.Laws.{doing_of}
 use Rattle.wb_keeping.specs.Performing.{Keeping, after_doing}
 use Rattle.wb_judging.specs.Echoing.{placed, with_echo}
@@ -36,7 +34,8 @@ use Rattle.wb_judged_sessions.specs.Sessions.{JudgedCall, after_call, judged_at}
 use Rattle.wb_judged_sessions.proofs.Echoed.{IsReported, last_is, reported, taken_line, timed_line}
 use Rattle.wb_judged_sessions.proofs.Records.{number_at}
 use Rattle.wb_judged_sessions.proofs.Sent.{echo_mine}
-use Rattle.wb_judged_sessions.proofs.TakenIn.{CallTells, call_tells, moment_in, newest_of, remember_grows, senders}
+use Rattle.wb_judged_sessions.proofs.TakenIn.{CallTells, call_tells, moment_in, newest_of, remember_grows, senders, AreEchoedBy}
+use Rattle.wb_policy.specs.Choices.{echoed, firsts_of}
 use Rattle.wb_judged_sessions.proofs.Terms.{own_at}
 
 -- ---- whoever was heard is remembered
@@ -74,48 +73,17 @@ remembered me number (call ∷ calls) h few e = by (session_heard me call) few e
     choose true same e = comes (eqb-true told.0 number same) (list_any (nat_eq told.0) known) refl (nat_le MAX_ENTRIES (length known)) refl
     choose false other e = is_there (rest small e) (list_any (nat_eq told.0) known || nat_le MAX_ENTRIES (length known))
 
--- ---- each of few was heard last
+-- ---- each of few is echoed
 
-abbrev many : (Echo → Bool) → List Echo → ℕ
-many p [] = 0
-many p (e ∷ es) = cond (p e) (1 + many p es) (many p es)
-
-no_more : (p : Echo → Bool) (es : List Echo) → many p es ≤ length es
-no_more p [] = omega arith
-no_more p (e ∷ es) = by (p e) (no_more p es) where
-  by : (b : Bool) → many p es ≤ length es → cond b (1 + many p es) (many p es) ≤ length (e ∷ es)
-  by true le = omega (arith, le)
-  by false le = omega (arith, le)
-
-but_one : (p : Echo → Bool) (es : List Echo) (x : Echo) → Contains es x → p x ≡ false → many p es < length es
-but_one p [] x c fails = absurd (Contains-none x c)
-but_one p (e ∷ es) x c fails = ⊎_elim
-    (λ (is : e ≡ x). let le = no_more p es in let same : many p (e ∷ es) ≡ many p es = ap (λ (b : Bool). cond b (1 + many p es) (many p es)) (ap p is ∙ fails) in omega (arith, le, same))
-    (λ (later : Contains es x). by (p e) (but_one p es x later fails))
-    (Contains-cases e x es c) where
-      by : (b : Bool) → many p es < length es → cond b (1 + many p es) (many p es) < length (e ∷ es)
-      by true lt = omega (arith, lt)
-      by false lt = omega (arith, lt)
-
-among_last : (es : List Echo) (e : Echo) → length es ≤ 32 → Contains es e → Contains (last_heard es) e
-among_last es e few c = Contains-filter (λ (f : Echo). nat_lt (count_by (λ (g : Echo). heard_later g f) es) 32) es e c (lt-ltb (count_by (λ (g : Echo). heard_later g e) es) 32 below) where
-  below : count_by (λ (g : Echo). heard_later g e) es < 32
-  below =
-      let p : Echo → Bool = λ g. heard_later g e in
-      let lt = but_one p es e c (itself e) in
-      let same = is_count_by (many p) p refl (λ x xs. refl) es in
-      omega (arith, lt, same, few)
-
--- so it is echoed
-echoed_of : (number : ℕ) (host : Opened) (h : Heard) → length (senders host) ≤ 32 → newest_of number host ≡ Some h → (e : Echo) × Contains (last_heard (echoes host)) e × (e.source ≡ number)
-echoed_of number host h few is =
+echoed_of : (number : ℕ) (host : Opened) (known : ℕ → Bool) (from : ℕ) (h : Heard) → length (senders host) ≤ 32 → newest_of number host ≡ Some h → (e : Echo) × Contains (echoed known from (echoes host)) e × (e.source ≡ number)
+echoed_of number host known from h few is =
     let e : Echo = record { source = number; sent = h.sent; held = present host - h.at } in
     let listed = echoes_listed host.is.number host.is.calls (present host) in
     let some = ap (λ (b : Bool). cond b (newest_of number host) None) (remembered host.is.number number host.is.calls h few is) ∙ is in
     let told = filter_map (echo_of_sender host.is.number host.is.calls (present host)) (senders host) in
     let short = sorted_few told in
     let less = mapped_few (echo_of_sender host.is.number host.is.calls (present host)) (senders host) in
-    (e, among_last (echoes host) e (omega (arith, short, less, few)) ((listed.members e).1 (h, some, refl, refl)), refl)
+    (e, all_of_few (firsts_of known from (echoes host)) from 32 (echoes host) e (omega (arith, short, less, few)) ((listed.members e).1 (h, some, refl, refl)), refl)
 
 -- ---- with the own echo
 
@@ -155,7 +123,7 @@ pub few_are_echoed : FewAreEchoed
 unfolding after_kept_line
 few_are_echoed numbers older e line number sender moment page marks es heard taken takes another sent last few =
     subst (λ (fs : List Echo). is_some (echo_to number fs) ≡ true) (sym r.echoed)
-    (find_some (λ (x : Echo). nat_eq x.source number) (with_echo own r.plain) it.0 (with_it own it.0 r.plain mine (subst (λ (fs : List Echo). Contains fs it.0) (sym said.2) it.1)) (eq-eqb it.0.source number it.2)) where
+    (find_some (λ (x : Echo). nat_eq x.source number) (with_echo own r.plain) it.0 (with_it own it.0 r.plain mine (subst (λ (fs : List Echo). Contains fs it.0) (sym said.2.is) it.1)) (eq-eqb it.0.source number it.2)) where
       h : Judged
       h = judged_at numbers older e.place
 
@@ -174,7 +142,7 @@ few_are_echoed numbers older e line number sender moment page marks es heard tak
       k : Keeping
       k = after_doing (doing_of (handed line h)) h.kept
 
-      said : (there : Opened) × (moment ≡ moment_in (handed line h)) × (r.plain ≡ last_heard (echoes there)) × (newest_of number there ≡ newest_of number k.host) × (present there ≡ moment)
+      said : (there : Opened) × (moment ≡ moment_in (handed line h)) × AreEchoedBy there r.plain × (newest_of number there ≡ newest_of number k.host) × (present there ≡ moment)
           × (length (senders there) ≤ length (senders k.host))
       said = tells.said sender moment page marks r.plain (taken_line numbers older e line taken takes) r.among
 
@@ -187,8 +155,8 @@ few_are_echoed numbers older e line number sender moment page marks es heard tak
       small : length (senders said.0) ≤ 32
       small = let fewer = said.5 in let end = subst (λ (k : Judged). length (senders k.kept.host) ≤ 32) after few in omega (arith, fewer, end)
 
-      it : (x : Echo) × Contains (last_heard (echoes said.0)) x × (x.source ≡ number)
-      it = echoed_of number said.0 heard small is
+      it : (x : Echo) × Contains (echoed said.2.known said.2.from (echoes said.0)) x × (x.source ≡ number)
+      it = echoed_of number said.0 said.2.known said.2.from heard small is
 
       mine : (x : Echo) → own ≡ Some x → x.source ≡ it.0.source → ⊥
       mine x is same =

@@ -13,6 +13,7 @@ use Rattle.wb_judge.specs.Judging.{admitted_verdict, after_admitted, after_admit
 use Rattle.wb_judge.specs.Known.{is_known, known_from}
 use Rattle.wb_judge.specs.Others.{is_bound_elsewhere, other_with, spoken}
 use Rattle.wb_judge.specs.Strange.{is_over, is_wide, with_given, without_name, without_origin}
+use Rattle.wb_judge.specs.Told.{leaves_holes}
 use Rattle.wb_member.specs.Judged.{holds}
 use Rattle.wb_member.specs.Opened.{present}
 use Rattle.wb_member.specs.Random.{after_word, started as random_started, word_of}
@@ -40,43 +41,43 @@ is_opening seed = record { moments = (omega arith, tt); in_range = refl; small =
 holds_it : (judged_at numbers requested 0).kept.host.is.held ≡ drawing ∷ []
 unfolding random_started word_of after_word words.started report_of gaps_of pages_of near_names leaps_on turns_on after_kept_line sent_by_kept_line
     verdict_on judge_after answers is_known known_from is_bound_elsewhere spoken other_with without_origin is_admitted after_admitting is_fetched speaking after_answer after_fetching after_hearing is_elsewhere admitted_verdict after_admitted report_verdict after_report
-    drawop_verdict is_forged_drawop is_firm_beside is_ahead is_over is_wide with_given without_name held_verdict after_held is_repaired after_repair stranger_verdict after_stranger missed_verdict
+    drawop_verdict is_forged_drawop is_firm_beside is_ahead is_over is_wide leaves_holes with_given without_name held_verdict after_held is_repaired after_repair stranger_verdict after_stranger missed_verdict
 holds_it = refl
 
 is_timed : (timers_at (judged_at numbers requested 0) drawing.name).answer ≡ Some answer
 unfolding random_started word_of after_word words.started report_of gaps_of pages_of near_names leaps_on turns_on after_kept_line sent_by_kept_line
     verdict_on judge_after answers is_known known_from is_bound_elsewhere spoken other_with without_origin is_admitted after_admitting is_fetched speaking after_answer after_fetching after_hearing is_elsewhere admitted_verdict after_admitted report_verdict after_report
-    drawop_verdict is_forged_drawop is_firm_beside is_ahead is_over is_wide with_given without_name held_verdict after_held is_repaired after_repair stranger_verdict after_stranger missed_verdict
+    drawop_verdict is_forged_drawop is_firm_beside is_ahead is_over is_wide leaves_holes with_given without_name held_verdict after_held is_repaired after_repair stranger_verdict after_stranger missed_verdict
 is_timed = refl
 
 is_here : present (judged_at numbers requested 0).kept.host ≡ 4200000
 unfolding random_started word_of after_word words.started report_of gaps_of pages_of near_names leaps_on turns_on after_kept_line sent_by_kept_line
     verdict_on judge_after answers is_known known_from is_bound_elsewhere spoken other_with without_origin is_admitted after_admitting is_fetched speaking after_answer after_fetching after_hearing is_elsewhere admitted_verdict after_admitted report_verdict after_report
-    drawop_verdict is_forged_drawop is_firm_beside is_ahead is_over is_wide with_given without_name held_verdict after_held is_repaired after_repair stranger_verdict after_stranger missed_verdict
+    drawop_verdict is_forged_drawop is_firm_beside is_ahead is_over is_wide leaves_holes with_given without_name held_verdict after_held is_repaired after_repair stranger_verdict after_stranger missed_verdict
 is_here = refl
 
 knows_it : knows (origin_of 1) 4200001 (judged_at numbers requested 0).judge ≡ true
 unfolding random_started word_of after_word words.started report_of gaps_of pages_of near_names leaps_on turns_on after_kept_line sent_by_kept_line
     verdict_on judge_after answers is_known known_from is_bound_elsewhere spoken other_with without_origin is_admitted after_admitting is_fetched speaking after_answer after_fetching after_hearing is_elsewhere admitted_verdict after_admitted report_verdict after_report
-    drawop_verdict is_forged_drawop is_firm_beside is_ahead is_over is_wide with_given without_name held_verdict after_held is_repaired after_repair stranger_verdict after_stranger missed_verdict
+    drawop_verdict is_forged_drawop is_firm_beside is_ahead is_over is_wide leaves_holes with_given without_name held_verdict after_held is_repaired after_repair stranger_verdict after_stranger missed_verdict
 knows_it = refl
 
 firm_then : is_firm drawing.name 4200001 (judged_at numbers requested 0).judge ≡ true
 unfolding random_started word_of after_word words.started report_of gaps_of pages_of near_names leaps_on turns_on after_kept_line sent_by_kept_line
     verdict_on judge_after answers is_known known_from is_bound_elsewhere spoken other_with without_origin is_admitted after_admitting is_fetched speaking after_answer after_fetching after_hearing is_elsewhere admitted_verdict after_admitted report_verdict after_report
-    drawop_verdict is_forged_drawop is_firm_beside is_ahead is_over is_wide with_given without_name held_verdict after_held is_repaired after_repair stranger_verdict after_stranger missed_verdict
+    drawop_verdict is_forged_drawop is_firm_beside is_ahead is_over is_wide leaves_holes with_given without_name held_verdict after_held is_repaired after_repair stranger_verdict after_stranger missed_verdict
 firm_then = refl
 
 all_taken : AreTaken numbers (copied ++ requested)
 unfolding random_started word_of after_word words.started report_of gaps_of pages_of near_names leaps_on turns_on after_kept_line sent_by_kept_line
     verdict_on judge_after answers is_known known_from is_bound_elsewhere spoken other_with without_origin is_admitted after_admitting is_fetched speaking after_answer after_fetching after_hearing is_elsewhere admitted_verdict after_admitted report_verdict after_report
-    drawop_verdict is_forged_drawop is_firm_beside is_ahead is_over is_wide with_given without_name held_verdict after_held is_repaired after_repair stranger_verdict after_stranger missed_verdict
+    drawop_verdict is_forged_drawop is_firm_beside is_ahead is_over is_wide leaves_holes with_given without_name held_verdict after_held is_repaired after_repair stranger_verdict after_stranger missed_verdict
 all_taken = (omega arith, (omega arith, (refl, (omega arith, (omega arith, (omega arith, (omega arith, (omega arith, ((is_opening 2, tt), ((is_opening 1, tt), tt))))))))))
 
 sends_all : sends_in (events_of (Passed answer.due Nothing) (judged_at numbers (copied ++ requested) 0)) ≡ Draw drawing ∷ []
 unfolding random_started word_of after_word words.started report_of gaps_of pages_of near_names leaps_on turns_on after_kept_line sent_by_kept_line
     verdict_on judge_after answers is_known known_from is_bound_elsewhere spoken other_with without_origin is_admitted after_admitting is_fetched speaking after_answer after_fetching after_hearing is_elsewhere admitted_verdict after_admitted report_verdict after_report
-    drawop_verdict is_forged_drawop is_firm_beside is_ahead is_over is_wide with_given without_name held_verdict after_held is_repaired after_repair stranger_verdict after_stranger missed_verdict
+    drawop_verdict is_forged_drawop is_firm_beside is_ahead is_over is_wide leaves_holes with_given without_name held_verdict after_held is_repaired after_repair stranger_verdict after_stranger missed_verdict
 sends_all = refl
 
 -- ---- a request
@@ -84,43 +85,43 @@ sends_all = refl
 lacks_it : holds (judged_at numbers told 0).kept.host missing ≡ false
 unfolding random_started word_of after_word words.started report_of gaps_of pages_of near_names leaps_on turns_on after_kept_line sent_by_kept_line
     verdict_on judge_after answers is_known known_from is_bound_elsewhere spoken other_with without_origin is_admitted after_admitting is_fetched speaking after_answer after_fetching after_hearing is_elsewhere admitted_verdict after_admitted report_verdict after_report
-    drawop_verdict is_forged_drawop is_firm_beside is_ahead is_over is_wide with_given without_name held_verdict after_held is_repaired after_repair stranger_verdict after_stranger missed_verdict
+    drawop_verdict is_forged_drawop is_firm_beside is_ahead is_over is_wide leaves_holes with_given without_name held_verdict after_held is_repaired after_repair stranger_verdict after_stranger missed_verdict
 lacks_it = refl
 
 asks_it : (timers_at (judged_at numbers told 0) missing).ask ≡ Some ask
 unfolding random_started word_of after_word words.started report_of gaps_of pages_of near_names leaps_on turns_on after_kept_line sent_by_kept_line
     verdict_on judge_after answers is_known known_from is_bound_elsewhere spoken other_with without_origin is_admitted after_admitting is_fetched speaking after_answer after_fetching after_hearing is_elsewhere admitted_verdict after_admitted report_verdict after_report
-    drawop_verdict is_forged_drawop is_firm_beside is_ahead is_over is_wide with_given without_name held_verdict after_held is_repaired after_repair stranger_verdict after_stranger missed_verdict
+    drawop_verdict is_forged_drawop is_firm_beside is_ahead is_over is_wide leaves_holes with_given without_name held_verdict after_held is_repaired after_repair stranger_verdict after_stranger missed_verdict
 asks_it = refl
 
 moment_there : present (judged_at numbers told 0).kept.host ≡ 4100000
 unfolding random_started word_of after_word words.started report_of gaps_of pages_of near_names leaps_on turns_on after_kept_line sent_by_kept_line
     verdict_on judge_after answers is_known known_from is_bound_elsewhere spoken other_with without_origin is_admitted after_admitting is_fetched speaking after_answer after_fetching after_hearing is_elsewhere admitted_verdict after_admitted report_verdict after_report
-    drawop_verdict is_forged_drawop is_firm_beside is_ahead is_over is_wide with_given without_name held_verdict after_held is_repaired after_repair stranger_verdict after_stranger missed_verdict
+    drawop_verdict is_forged_drawop is_firm_beside is_ahead is_over is_wide leaves_holes with_given without_name held_verdict after_held is_repaired after_repair stranger_verdict after_stranger missed_verdict
 moment_there = refl
 
 knows_then : knows (origin_of 1) 4100001 (judged_at numbers told 0).judge ≡ true
 unfolding random_started word_of after_word words.started report_of gaps_of pages_of near_names leaps_on turns_on after_kept_line sent_by_kept_line
     verdict_on judge_after answers is_known known_from is_bound_elsewhere spoken other_with without_origin is_admitted after_admitting is_fetched speaking after_answer after_fetching after_hearing is_elsewhere admitted_verdict after_admitted report_verdict after_report
-    drawop_verdict is_forged_drawop is_firm_beside is_ahead is_over is_wide with_given without_name held_verdict after_held is_repaired after_repair stranger_verdict after_stranger missed_verdict
+    drawop_verdict is_forged_drawop is_firm_beside is_ahead is_over is_wide leaves_holes with_given without_name held_verdict after_held is_repaired after_repair stranger_verdict after_stranger missed_verdict
 knows_then = refl
 
 firm_there : is_firm missing 4100001 (judged_at numbers told 0).judge ≡ true
 unfolding random_started word_of after_word words.started report_of gaps_of pages_of near_names leaps_on turns_on after_kept_line sent_by_kept_line
     verdict_on judge_after answers is_known known_from is_bound_elsewhere spoken other_with without_origin is_admitted after_admitting is_fetched speaking after_answer after_fetching after_hearing is_elsewhere admitted_verdict after_admitted report_verdict after_report
-    drawop_verdict is_forged_drawop is_firm_beside is_ahead is_over is_wide with_given without_name held_verdict after_held is_repaired after_repair stranger_verdict after_stranger missed_verdict
+    drawop_verdict is_forged_drawop is_firm_beside is_ahead is_over is_wide leaves_holes with_given without_name held_verdict after_held is_repaired after_repair stranger_verdict after_stranger missed_verdict
 firm_there = refl
 
 told_taken : AreTaken numbers (put_off ++ told)
 unfolding random_started word_of after_word words.started report_of gaps_of pages_of near_names leaps_on turns_on after_kept_line sent_by_kept_line
     verdict_on judge_after answers is_known known_from is_bound_elsewhere spoken other_with without_origin is_admitted after_admitting is_fetched speaking after_answer after_fetching after_hearing is_elsewhere admitted_verdict after_admitted report_verdict after_report
-    drawop_verdict is_forged_drawop is_firm_beside is_ahead is_over is_wide with_given without_name held_verdict after_held is_repaired after_repair stranger_verdict after_stranger missed_verdict
+    drawop_verdict is_forged_drawop is_firm_beside is_ahead is_over is_wide leaves_holes with_given without_name held_verdict after_held is_repaired after_repair stranger_verdict after_stranger missed_verdict
 told_taken = (omega arith, (omega arith, (omega arith, (omega arith, (omega arith, (omega arith, (omega arith, ((is_opening 2, tt), ((is_opening 1, tt), tt)))))))))
 
 sends_request : sends_in (events_of (Passed ask.due Nothing) (judged_at numbers (put_off ++ told) 0)) ≡ Request 10 missing ∷ []
 unfolding random_started word_of after_word words.started report_of gaps_of pages_of near_names leaps_on turns_on after_kept_line sent_by_kept_line
     verdict_on judge_after answers is_known known_from is_bound_elsewhere spoken other_with without_origin is_admitted after_admitting is_fetched speaking after_answer after_fetching after_hearing is_elsewhere admitted_verdict after_admitted report_verdict after_report
-    drawop_verdict is_forged_drawop is_firm_beside is_ahead is_over is_wide with_given without_name held_verdict after_held is_repaired after_repair stranger_verdict after_stranger missed_verdict
+    drawop_verdict is_forged_drawop is_firm_beside is_ahead is_over is_wide leaves_holes with_given without_name held_verdict after_held is_repaired after_repair stranger_verdict after_stranger missed_verdict
 sends_request = refl
 
 -- ---- both

@@ -1,5 +1,5 @@
 -- What judged members do, self-managing members do.
-use Rattle.std.proofs.Common.{◌≡◌, ℕ, ◌≤◌, List, [], ◌∷◌, ◌++◌, ◌∙◌, None, ap, append-nil, arith, length, map, refl, subst, sym, ⊎_elim}
+use Rattle.std.proofs.Common.{◌≡◌, ℕ, ◌≤◌, List, [], ◌∷◌, ◌++◌, ◌∙◌, ap, append-nil, arith, length, map, refl, subst, sym, ⊎_elim}
 use Rattle.std.specs.Prelude.{Contains, nat_eq, not}
 use Rattle.wb_names.specs.declared.echo.Echo.{Echo}
 use Rattle.wb_judging.proofs.Heard.{filter_of_filter}

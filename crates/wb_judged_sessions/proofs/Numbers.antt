@@ -15,7 +15,7 @@ use Rattle.wb_codec.specs.declared.datagram.Datagram.TheVariants.{AskPages, Draw
 use Rattle.wb_judge.specs.Answers.{answers}
 use Rattle.wb_judge.specs.Buckets.{has_room}
 use Rattle.wb_judge.specs.Judge.{Judge, is_another, is_forged, owner_in}
-use Rattle.wb_judge.specs.Judging.{after_admitted, after_admitting, after_answer, after_coming, after_fetching, after_hearing, after_judging, after_own, after_report, after_said, answering_at, fetching_at, is_admitted, is_elsewhere, is_fetched, is_forged_mark, is_heard, new_ahead, paid_for, speaking, with_payment}
+use Rattle.wb_judge.specs.Judging.{after_admitted, after_admitting, after_answer, after_coming, after_fetching, after_hearing, after_judging, after_of, after_own, after_report, after_said, after_telling, answering_at, fetching_at, is_admitted, is_elsewhere, is_fetched, is_forged_mark, is_heard, new_ahead, paid_for, speaking, with_payment}
 use Rattle.wb_judge.specs.Laws.{is_answer, speaker_in}
 use Rattle.wb_judge.specs.Origins.{same_origin}
 use Rattle.wb_judge.specs.Others as numbers
@@ -261,18 +261,24 @@ silent o v f j none = ⊎_elim
       never : (n : ℕ) → (let x : Option ℕ = None in x) ≡ Some n → ⊥
       never n e = absurd cc
 
+-- also if it tells marks
+spoke_told : (o : Origin) (number : ℕ) (answer : Bool) (now : ℕ) (before : List Other) (v : Datagram) (k : Judge) → (k.others ≡ before) ⊎ Spoke o number answer now before k
+    → (k.others ≡ before) ⊎ Spoke o number answer now before (after_telling o v now k)
+spoke_told o number answer now before v k (inl e) = inl e
+spoke_told o number answer now before v k (inr s) = inr (record { fetch = s.fetch; others = s.others })
+
 spoken_in : (o : Origin) (v : Datagram) (f : Facts) (j : Judge) → ((after_judging o v f j).others ≡ j.others) ⊎ SpokeIn o v f j (after_judging o v f j)
 spoken_in o (Draw d) f j = inl refl
 spoken_in o (Session s sent page marks echoes) f j =
     let v = Session s sent page marks echoes in
     let i = after_coming o f.at j in
     let r = report_of j.me s marks echoes in
-    in_it o s v f j (after_judging o v f j) refl (said_others o s (is_answer v f.at j) f.at j i (after_own o sent r f.at i) (after_report o r f i) refl (own_others o sent r f.at i) (report_others o r f i))
+    in_it o s v f j (after_judging o v f j) refl (spoke_told o s (is_answer v f.at j) f.at j.others v (after_of o v f i) (said_others o s (is_answer v f.at j) f.at j i (after_own o sent r f.at i) (after_report o r f i) refl (own_others o sent r f.at i) (report_others o r f i)))
 spoken_in o (PageState s page marks) f j =
     let v = PageState s page marks in
     let i = after_coming o f.at j in
     let r = report_of j.me s marks [] in
-    in_it o s v f j (after_judging o v f j) refl (said_others o s (is_answer v f.at j) f.at j i i (after_report o r f i) refl refl (report_others o r f i))
+    in_it o s v f j (after_judging o v f j) refl (spoke_told o s (is_answer v f.at j) f.at j.others v (after_of o v f i) (said_others o s (is_answer v f.at j) f.at j i i (after_report o r f i) refl refl (report_others o r f i)))
 spoken_in o (Request asker name) f j = inl (silent o (Request asker name) f j refl)
 spoken_in o (AskPages asker) f j = inl (silent o (AskPages asker) f j refl)
 

@@ -58,10 +58,10 @@ module _ (number : ℕ) (start : Start) (given : List RecordLine) where
 
 -- ---- a board is what its file has
 
-abbrev IsFile : Judged → List RecordLine → Type 0
+abbrev pub IsFile : Judged → List RecordLine → Type 0
 IsFile h file = held_by h ≡ history_after (cells_of h) [] (drawops_of file)
 
-call_files : (call : JudgedCall) (h : Judged) (file : List RecordLine) → IsFile h file → IsFile (after_call call h) (file_after call h file)
+pub call_files : (call : JudgedCall) (h : Judged) (file : List RecordLine) → IsFile h file → IsFile (after_call call h) (file_after call h file)
 call_files (Starts start given) h file is =
     let number = h.kept.host.is.number in
     start_held number start given ∙ ap (λ (cells : ℕ). history_after cells [] (drawops_of given)) (sym (start_cells number start given))

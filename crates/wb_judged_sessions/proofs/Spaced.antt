@@ -14,11 +14,11 @@ use Rattle.wb_gaps.specs.Answers.{pages_of, report_of}
 use Rattle.wb_judge.specs.Adding.{own_echo}
 use Rattle.wb_member.specs.Opened.{Opened, has_room_for, heard, present}
 use Rattle.wb_member.specs.declared.calls.Call.TheVariants.{Tick, Hear}
-use Rattle.wb_policy.specs.Choices.{last_heard}
 use Rattle.wb_policy.specs.Policy.{after_answer, after_wanting}
 use Rattle.wb_policy.specs.Reports.{slice_after}
 use Rattle.wb_policy.specs.Wanting.{is_wanted}
-use Rattle.wb_keeping.specs.Kept.{Calls, Doing, Line, Says, reports_page, state_of, still, want}
+use Rattle.wb_policy.specs.declared.reports.Told.{Told}
+use Rattle.wb_keeping.specs.Kept.{Calls, Doing, Line, Says, reports_page, state_of, still, want, report_echoes}
 use Rattle.wb_keeping.specs.Laws.{KeptLine, doing_of, fault_of}
 use Rattle.wb_keeping.specs.Performing.{Keeping, after_doing, after_line, after_lines, sees, sent_by_doing, sent_by_lines, view_of}
 use Rattle.wb_keeping.specs.Views.{View, holds, is_full, is_known, level}
@@ -150,9 +150,9 @@ answers_space k =
     (at_once _ _ (ap present (says_after (view_of k.host) (take 64 (pages_of k.host.is.held)) k.host))) refl
 
 -- a report, which is due
-reports_space : (page : PageId) (until : ℕ) (marks : List MarkValue) (k : Keeping) → nat_le k.policy.reports.due (present k.host) ≡ true
-    → Spaces k (reports_page page until marks (sees k.host) k.policy).lines (after_doing (reports_page page until marks) k)
-reports_space page until marks k is = record {
+reports_space : (page : PageId) (then : Told) (marks : List MarkValue) (k : Keeping) → nat_le k.policy.reports.due (present k.host) ≡ true
+    → Spaces k (reports_page page then marks (sees k.host) k.policy).lines (after_doing (reports_page page then marks) k)
+reports_space page then marks k is = record {
   at = refl;
   spaced = record {
     later = at_once (present k.host) (present k.host) refl;
@@ -161,10 +161,10 @@ reports_space page until marks k is = record {
   };
   next = λ s t on told es c. let same = moment s t on told es (one_of _ _ c) in omega (arith, same, later);
 } where
-  later : present k.host + 1000000 ≤ report_due (after_doing (reports_page page until marks) k)
+  later : present k.host + 1000000 ≤ report_due (after_doing (reports_page page then marks) k)
   later = next_late (present k.host) _ _
 
-  moment : (s t : ℕ) (on : PageId) (told : List MarkValue) (es : List Echo) → Session k.host.is.number (present k.host) page marks (last_heard (view_of k.host).echoes) ≡ Session s t on told es → t ≡ present k.host
+  moment : (s t : ℕ) (on : PageId) (told : List MarkValue) (es : List Echo) → Session k.host.is.number (present k.host) page marks (report_echoes (view_of k.host) k.policy) ≡ Session s t on told es → t ≡ present k.host
   moment s t on told es e = cc
 
 space : (k m : Keeping) (line : Line) → SaysOnly IsNoReport line → m.host ≡ after_line line k.host → present m.host ≡ present k.host → report_due m ≡ report_due k → Spaces k (line ∷ []) m
@@ -183,7 +183,7 @@ steps_space = record {
     beats = λ k due. nothing k _ refl refl;
     answers = λ k is. answers_space k;
     asks_pages = λ k is. space k _ _ tt refl refl refl;
-    reports = λ page until told k is. reports_space page until (slice_after told (report_of k.host.is.held page)) k is;
+    reports = λ page then told k is. reports_space page then (slice_after told (report_of k.host.is.held page)) k is;
   };
   ticks = λ now k later. quietly k _ (Calls (Tick now) ∷ []) (tt, tt) refl later refl;
   arrives = λ d k free. space k _ _ tt refl refl refl;

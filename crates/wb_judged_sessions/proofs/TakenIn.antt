@@ -19,7 +19,7 @@ use Rattle.wb_keeper.specs.declared.keeper.Heard.{Heard}
 use Rattle.wb_member.specs.Judged.{echoes}
 use Rattle.wb_member.specs.Opened.{Opened, has_room_for, heard, may_ask, present, ticked}
 use Rattle.wb_member.specs.declared.calls.Call.TheVariants as calls
-use Rattle.wb_policy.specs.Choices.{echoed_delay, last_heard, own_echo as echo_of, told_names}
+use Rattle.wb_policy.specs.Choices.{echoed_delay, own_echo as echo_of, told_names, echoed}
 use Rattle.wb_policy.specs.Policy.{Policy}
 use Rattle.wb_keeping.specs.Kept.{Calls, Doing, Line, Says, Transition, and_then, came, measures, performs, still, timed, want_told}
 use Rattle.wb_keeping.specs.Laws.{Added, Came, KeptLine, Ticked, Tuned, doing_of, fault_of}
@@ -36,6 +36,7 @@ use Rattle.wb_kept_progress.proofs.StillCalls.{line_now}
 use Rattle.wb_laws_kept.specs.Listening.{heard_of}
 use Rattle.wb_laws_sessions.proofs.Sending.{one_of}
 use Rattle.wb_judged_sessions.specs.Answering.{taken_from, taken_in}
+use Rattle.wb_keeping.specs.Views.{is_known}
 use Rattle.wb_judged_sessions.proofs.SaidOnly.{SaysOnly, line_sends, lines_send, want_says}
 
 -- ---- what was heard last under a number
@@ -115,8 +116,14 @@ lines_grow (line ∷ lines) host = let one = line_grows line host in let rest = 
 
 -- ---- what a report says of its moment, and echoes
 
+-- whom a member echoes of those that it remembers
+pub record AreEchoedBy (host : Opened) (es : List Echo) : Type 0 where
+  pub known : ℕ → Bool
+  pub from : ℕ
+  pub is : es ≡ echoed known from (echoes host)
+
 abbrev IsReportOf : Opened → Datagram → Type 0
-IsReportOf host (Session s sent page marks es) = (sent ≡ present host) × (es ≡ last_heard (echoes host))
+IsReportOf host (Session s sent page marks es) = (sent ≡ present host) × AreEchoedBy host es
 IsReportOf host v = Unit {0}
 
 abbrev IsToldBy : Line → Opened → Type 0
@@ -164,7 +171,7 @@ steps_tell = record {
     beats = λ k due. quietly k [] _ tt;
     answers = λ k is. quietly k _ _ (states_each (SaysOnly IsNoReport) (view_of k.host) (λ page. tt) (take 64 (pages_of k.host.is.held)));
     asks_pages = λ k is. quietly k _ _ (tt, tt);
-    reports = λ page until told k is. record { at = refl; told = (λ v c. subst (IsReportOf k.host) (one_of _ v c) (refl, refl), tt) };
+    reports = λ page until told k is. record { at = refl; told = (λ v c. subst (IsReportOf k.host) (one_of _ v c) (refl, record { known = is_known (view_of k.host); from = k.policy.echoed; is = refl }), tt) };
   };
   ticks = λ now k later. quietly k _ k.policy (tt, tt);
   arrives = λ d k free. quietly k _ k.policy (tt, tt);
@@ -188,7 +195,7 @@ steps_tell = record {
 record IsSaidAt (number : ℕ) (host end : Opened) (moment : ℕ) (es : List Echo) : Type 0 where
   there : Opened
   now : moment ≡ present host
-  echoed : es ≡ last_heard (echoes there)
+  echoed : AreEchoedBy there es
   same : newest_of number there ≡ newest_of number host
   then : present there ≡ present host
   few : length (senders there) ≤ length (senders end)
@@ -253,7 +260,7 @@ begins (Tuned constants) k timed_call = absurd timed_call
 pub record CallTells (number : ℕ) (call : KeptLine) (k : Keeping) : Type 0 where
   pub newest_is : newest_of number (after_doing (doing_of call) k).host ≡ taken_in number call k (newest_of number k.host)
   pub said : (s moment : ℕ) (page : PageId) (marks : List MarkValue) (es : List Echo) → fault_of call k ≡ None → Contains (sent_by_doing (doing_of call) k) (Session s moment page marks es)
-      → (there : Opened) × (moment ≡ moment_in call) × (es ≡ last_heard (echoes there)) × (newest_of number there ≡ newest_of number (after_doing (doing_of call) k).host) × (present there ≡ moment) × (length (senders there) ≤ length (senders (after_doing (doing_of call) k).host))
+      → (there : Opened) × (moment ≡ moment_in call) × AreEchoedBy there es × (newest_of number there ≡ newest_of number (after_doing (doing_of call) k).host) × (present there ≡ moment) × (length (senders there) ≤ length (senders (after_doing (doing_of call) k).host))
 
 not_taken : (number : ℕ) (call : KeptLine) (k : Keeping) (before : Option Heard) → IsQuiet number call → taken_in number call k before ≡ before
 not_taken number (Came now (Session s sent page marks es)) k before quiet =
@@ -264,7 +271,7 @@ not_taken number call k before quiet = refl
 -- of lines that begin with a tick, the report is said after it
 said_after_tick : (number : ℕ) (call : KeptLine) (k : Keeping) → IsTimed call → Each (HearsNo number) (doing_of call (sees k.host) k.policy).lines → fault_of call k ≡ None
     → (s moment : ℕ) (page : PageId) (marks : List MarkValue) (es : List Echo) → Contains (sent_by_doing (doing_of call) k) (Session s moment page marks es)
-    → (there : Opened) × (moment ≡ moment_in call) × (es ≡ last_heard (echoes there)) × (newest_of number there ≡ newest_of number k.host) × (present there ≡ moment) × (length (senders there) ≤ length (senders (after_doing (doing_of call) k).host))
+    → (there : Opened) × (moment ≡ moment_in call) × AreEchoedBy there es × (newest_of number there ≡ newest_of number k.host) × (present there ≡ moment) × (length (senders there) ≤ length (senders (after_doing (doing_of call) k).host))
 said_after_tick number call k timed_call unheard none s moment page marks es c =
     let b = begins call k timed_call in
     let told = subst (λ (lines : List Line). AreAll IsToldBy lines k.host) b.is (line_holds Tells steps_tell call k none).told in

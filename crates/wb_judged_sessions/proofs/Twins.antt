@@ -17,7 +17,7 @@ use Rattle.wb_judge.specs.Adding.{echo_of, own_echo}
 use Rattle.wb_judge.specs.Aliens.{alien_at, beside, with_alien}
 use Rattle.wb_judge.specs.Answers.{answers}
 use Rattle.wb_judge.specs.Judge.{Judge, is_forged, knows}
-use Rattle.wb_judge.specs.Judging.{after_admitted, after_admitting, after_answer, after_coming, after_fetching, after_hearing, after_judging, after_of, after_own, after_report, is_forged_mark, is_twin, with_payment}
+use Rattle.wb_judge.specs.Judging.{after_admitted, after_admitting, after_answer, after_coming, after_fetching, after_hearing, after_judging, after_of, after_own, after_report, after_telling, is_forged_mark, is_twin, with_payment}
 use Rattle.wb_judge.specs.Laws.{is_answer}
 use Rattle.wb_judge.specs.Reports.{echo_to, report_of}
 use Rattle.wb_judge.specs.Strange.{with_given}
@@ -29,7 +29,7 @@ use Rattle.wb_judge.specs.declared.report.Report.{Report}
 use Rattle.wb_judge.proofs.Twins.{replay_is_no_twin}
 use Rattle.wb_member.specs.Judged.{echoes}
 use Rattle.wb_member.specs.Opened.{present}
-use Rattle.wb_policy.proofs.Latest.{last_are_few}
+use Rattle.wb_policy.proofs.Latest.{few as echoed_few, others_from}
 use Rattle.wb_judging.specs.Echoing.{placed, with_echo}
 use Rattle.wb_judging.specs.Handing.{facts_of, handed, judge_after}
 use Rattle.wb_judging.specs.Events.{is_new}
@@ -49,6 +49,7 @@ use Rattle.wb_judged_sessions.specs.Sessions.{judged_at}
 use Rattle.wb_judged_sessions.specs.Terms.{AreTaken}
 use Rattle.wb_judged_sessions.specs.Twins.{AnswersShowTwins, IsOfTwin, TwinsAreRemembered, TwinsSee, TwinsStay}
 use Rattle.wb_judged_sessions.proofs.Answered.{after_it, answers_in_time, me_at, taken_part}
+use Rattle.wb_policy.specs.Choices.{firsts_of}
 use Rattle.wb_judged_sessions.proofs.Echoed.{IsReported, report_echoes, report_moment, reported, taken_line}
 
 -- ---- what a report of a twin makes of a judge
@@ -96,9 +97,9 @@ module _ (now : ℕ) (o : Origin) (sent : ℕ) (page : PageId) (marks : List Mar
   abbrev r : Report
   r = report_of h.judge.me h.judge.me marks es
 
-  judged : judge_after now o v h ≡ with_twin o sent r now (after_coming o now h.judge)
+  judged : judge_after now o v h ≡ after_telling o v now (with_twin o sent r now (after_coming o now h.judge))
   unfolding judge_after
-  judged = of_twin o sent page marks es (facts_of now v h.kept) (after_coming o now h.judge) twin.owned twin.other
+  judged = ap (after_telling o v now) (of_twin o sent page marks es (facts_of now v h.kept) (after_coming o now h.judge) twin.owned twin.other)
 
   abbrev a : Alien
   a = record { origin = o; sent = sent; at = now }
@@ -264,7 +265,7 @@ twins_see numbers calls e other now moment o page marks es heard taken same sent
       few : length report.plain ≤ 32
       few =
           let t = report_echoes sent.line k me moment page marks es (taken_line numbers sent.earlier sent.call sent.line taken_there sent.takes) report in
-          subst (λ (fs : List Echo). length fs ≤ 32) (sym t.1) (last_are_few (echoes t.0) (lawful_echoes t.0.is.number t.0.is.calls (present t.0)))
+          subst (λ (fs : List Echo). length fs ≤ 32) (sym t.1.is) (echoed_few (firsts_of t.1.known t.1.from (echoes t.0)) t.1.from 32 (echoes t.0) (others_from (echoes t.0) (lawful_echoes t.0.is.number t.0.is.calls (present t.0)).ascending))
 
       aliens : (judging sent.line k).aliens ≡ (judged_at numbers (sent.call ∷ sent.earlier) other).judge.aliens
       aliens =

@@ -8,7 +8,6 @@ use Rattle.wb_judging.specs.Judged.{Judged}
 use Rattle.wb_judging.specs.declared.call.Call.{Call}
 use Rattle.wb_judging.specs.declared.call.Call.TheVariants.{CameFrom, Held, Passed, UserDrew}
 use Rattle.wb_judging.specs.Laws.{expanded}
-use Rattle.wb_laws_kept.specs.Kept.{kept}
 use Rattle.wb_laws_kept.specs.Sessions.{Begins, Call as KeptCall, Handed}
 use Rattle.wb_laws_machines.specs.Machines.{Machine}
 use Rattle.wb_laws_machines.specs.Maps.{Map}

@@ -1,15 +1,13 @@
 -- What holds of sessions of judged members, through every start of their programs.
 use Rattle.std.specs.Prelude.{◌≡◌, ◌≤◌, ◌<◌, ℕ, List, [], ◌∷◌, ◌++◌, Contains}
-use Rattle.wb_names.specs.Arrivals.{Clash, history_after}
+use Rattle.wb_names.specs.Arrivals.{history_after}
 use Rattle.wb_names.specs.Ascending.{AreMarks}
 use Rattle.wb_names.specs.History.{IsHistory, name_of}
 use Rattle.wb_names.specs.Values.{DrawopValue, MarkValue}
 use Rattle.wb_names.specs.declared.name.PageId.{PageId}
 use Rattle.wb_codec.specs.declared.datagram.Datagram.{Datagram}
-use Rattle.wb_codec.specs.declared.datagram.Datagram.TheVariants.{Draw}
-use Rattle.wb_gaps.specs.Answers.{report_of}
 use Rattle.wb_keeper.specs.Hearing.{marks_in}
-use Rattle.wb_member.specs.Opened.{becomes, gaps_at, last_number}
+use Rattle.wb_member.specs.Opened.{last_number}
 use Rattle.wb_names.specs.declared.name.TheConstants.{FIRST_FORGED}
 use Rattle.wb_judge.specs.declared.origin.Origin.{Origin}
 use Rattle.wb_keeping.specs.Laws.{Came}
@@ -20,10 +18,9 @@ use Rattle.wb_judging.specs.declared.record.RecordLine.{RecordLine}
 use Rattle.wb_laws_kept.specs.Listening.{IsHeardWhole, TellsMark}
 use Rattle.wb_laws_kept.specs.Restarts.{KnowTheirOwn as KeptKnowTheirOwn}
 use Rattle.wb_laws_kept.specs.Sessions.{AreTaken as AreKeptTaken, DrawopsWereHeld as KeptDrawopsWereHeld, steps_of}
-use Rattle.wb_laws_machines.specs.Agreement.{Agree}
 use Rattle.wb_laws_sessions.specs.Sessions.{sent as sent_by_steps}
 use Rattle.wb_laws_machines.specs.Honest.{AreApart}
-use Rattle.wb_judged_sessions.specs.Sessions.{Holds, JudgedCallAt, Start, Starts, Takes, WasDrawn, WasHeld, drawn_at, judged_at, kept_calls, sent}
+use Rattle.wb_judged_sessions.specs.Sessions.{Holds, JudgedCallAt, Start, Starts, Takes, WasDrawn, judged_at, kept_calls, sent}
 use Rattle.wb_laws_machines.specs.Maps.{plain}
 use Rattle.wb_judged_sessions.specs.Terms.{AreTaken, DrawopsWereHeld, IsSession, KeepFiles, KnowTheirOwn, RecordsAreWhole, file_at}
 
@@ -71,32 +68,16 @@ abbrev pub HeldWasDrawn : Type 0
 HeldWasDrawn = (numbers : ℕ → ℕ) (calls : List JudgedCallAt) → IsSession numbers calls
     → (i : ℕ) (d : DrawopValue) → Holds numbers calls i d → WasDrawn numbers calls d
 
--- So it did what a member held before.
-abbrev pub OnceHeldWasDrawn : Type 0
-OnceHeldWasDrawn = (numbers : ℕ → ℕ) (calls : List JudgedCallAt) → IsSession numbers calls
-    → (d : DrawopValue) → WasHeld numbers calls d → WasDrawn numbers calls d
-
 -- No two drawops that were drawn have one name.
 abbrev pub NamesMeanOne : Type 0
 NamesMeanOne = (numbers : ℕ → ℕ) (calls : List JudgedCallAt) → IsSession numbers calls
     → (d e : DrawopValue) → WasDrawn numbers calls d → WasDrawn numbers calls e
     → d.name ≡ e.name → d ≡ e
 
--- What the member at a place draws has its number, and a sequence number from 1 on.
-abbrev pub NumbersCount : Type 0
-NumbersCount = (numbers : ℕ → ℕ) (calls : List JudgedCallAt) → IsSession numbers calls
-    → (i : ℕ) (d : DrawopValue) → Contains (drawn_at numbers calls i) d
-    → (d.name.source ≡ numbers i) × (1 ≤ d.name.seq)
-
 -- No name stands twice on a board, whatever came.
 abbrev pub HeldOnce : Type 0
 HeldOnce = (numbers : ℕ → ℕ) (calls : List JudgedCallAt) (i : ℕ)
     → IsHistory (judged_at numbers calls i).kept.host.is.held
-
--- A drawop that is sent, by its source or as a repair, was drawn.
-abbrev pub SentWasDrawn : Type 0
-SentWasDrawn = (numbers : ℕ → ℕ) (calls : List JudgedCallAt) → IsSession numbers calls
-    → (d : DrawopValue) → Contains (sent numbers calls) (Draw d) → WasDrawn numbers calls d
 
 -- Each mark that is sent is of a drawop that was drawn.
 abbrev pub MarksWereDrawn : Type 0
@@ -104,47 +85,6 @@ MarksWereDrawn = (numbers : ℕ → ℕ) (calls : List JudgedCallAt) → IsSessi
     → (v : Datagram) (page : PageId) (m : MarkValue)
     → Contains (sent numbers calls) v → Contains (marks_in page v) m
     → (d : DrawopValue) × WasDrawn numbers calls d × (d.name ≡ name_of page m.source m.high)
-
--- A drawop that some member held clashes with nothing that another holds, at whatever moments.
-abbrev pub NoneClashes : Type 0
-NoneClashes = (numbers : ℕ → ℕ) (newer older : List JudgedCallAt) (i : ℕ) (d : DrawopValue) (place : ℕ)
-    → IsSession numbers (newer ++ older) → WasHeld numbers (newer ++ older) d
-    → becomes d (judged_at numbers older i).kept.host ≡ Clash place → ⊥
-
--- ---- agreement
-
--- Two members that have one report of a page, and no gaps there, agree: each at a moment of its
--- own, in either order, and whoever started anew between.
-abbrev pub ReportsTellAgreementAt : (ℕ → ℕ) → List JudgedCallAt → Type 0
-ReportsTellAgreementAt numbers calls =
-    (newer older newer' older' : List JudgedCallAt) (i j : ℕ) (page : PageId)
-    → calls ≡ newer ++ older → calls ≡ newer' ++ older'
-    → let one = (judged_at numbers older i).kept.host in
-    let other = (judged_at numbers older' j).kept.host in
-    report_of one.is.held page ≡ report_of other.is.held page
-    → gaps_at page one ≡ [] → gaps_at page other ≡ [] → Agree one other page
-
--- So it is if members know their own numbers,
-abbrev pub ReportsTellAgreement : Type 0
-ReportsTellAgreement = (numbers : ℕ → ℕ) (calls : List JudgedCallAt)
-    → IsSession numbers calls → ReportsTellAgreementAt numbers calls
-
--- and so if each program starts with its file.
-abbrev pub FiledReportsTellAgreement : Type 0
-FiledReportsTellAgreement = (numbers : ℕ → ℕ) (calls : List JudgedCallAt)
-    → AreApart numbers → AreTaken numbers calls → DrawopsWereHeld numbers calls
-    → KeepFiles numbers calls → ReportsTellAgreementAt numbers calls
-
--- a member holds all that was drawn on the page
-abbrev pub HoldsAllDrawn : (ℕ → ℕ) → List JudgedCallAt → PageId → ℕ → Type 0
-HoldsAllDrawn numbers calls page i =
-    (d : DrawopValue) → WasDrawn numbers calls d → d.name.page ≡ page → Holds numbers calls i d
-
--- Two members that hold all that was drawn on a page agree.
-abbrev pub WholeBoardsAgree : Type 0
-WholeBoardsAgree = (numbers : ℕ → ℕ) (calls : List JudgedCallAt) (i j : ℕ) (page : PageId)
-    → IsSession numbers calls → HoldsAllDrawn numbers calls page i → HoldsAllDrawn numbers calls page j
-    → Agree (judged_at numbers calls i).kept.host (judged_at numbers calls j).kept.host page
 
 -- ---- listening
 

@@ -1,10 +1,9 @@
 -- Sessions of judged members, as people run them: one in which a judge stands in front of each
 -- member. The program of a member starts, and is handed the lines of its record; then it is called.
 -- It starts as often as one likes. A line that is refused changes nothing, so it is left out.
-use Rattle.std.specs.Prelude.{◌≡◌, ℕ, List, [], ◌∷◌, ◌++◌, Contains, Option, None, filter, map, nat_eq, not, if◌then◌else◌}
+use Rattle.std.specs.Prelude.{◌≡◌, ℕ, List, [], ◌∷◌, ◌++◌, Contains, Option, None, map, nat_eq, if◌then◌else◌}
 use Rattle.wb_names.specs.Values.{DrawopValue}
 use Rattle.wb_codec.specs.declared.datagram.Datagram.{Datagram}
-use Rattle.wb_codec.specs.declared.datagram.Datagram.TheVariants.{AskPages, Draw, PageState, Request, Session}
 use Rattle.wb_judge.specs.Judge.{opened as opened_judge}
 use Rattle.wb_policy.specs.Policy.{begun}
 use Rattle.wb_recovery.specs.declared.tuning.Tuning.{Tuning}
@@ -22,6 +21,7 @@ use Rattle.wb_judging.specs.declared.judged_member.Opening.{Opening as Beginning
 use Rattle.wb_judging.specs.declared.record.RecordLine.{RecordLine}
 use Rattle.wb_laws_kept.specs.Openings.{Opening, opened_host}
 use Rattle.wb_laws_kept.specs.Sessions.{Begins, CallAt, Handed, kept_at, steps_of}
+use Rattle.wb_laws_machines.specs.Maps.{plain}
 use Rattle.wb_laws_sessions.specs.Drawn.{drawn_at as drawn_by_steps}
 use Rattle.wb_laws_sessions.specs.Members.{unopened}
 
@@ -139,16 +139,7 @@ sent numbers (e ∷ older) = sent_by e.call (judged_at numbers older e.place) ++
 
 -- ---- the same as a session of self-managing members
 
--- A report of a judged member may have an echo under the number of its sender. No other member reads
--- it: this is the report without it, and each other datagram is as it is.
-abbrev pub plain : Datagram → Datagram
-plain (Draw d) = Draw d
-plain (Session sender sent page marks echoes) =
-    Session sender sent page marks (filter (λ e. not (nat_eq e.source sender)) echoes)
-plain (Request asker name) = Request asker name
-plain (AskPages asker) = AskPages asker
-plain (PageState sender page marks) = PageState sender page marks
-
+-- a line without the echo of a report under the number of its sender, which no other member reads
 abbrev pub plain_line : KeptLine → KeptLine
 plain_line (Came now v) = Came now (plain v)
 plain_line (Ticked now) = Ticked now

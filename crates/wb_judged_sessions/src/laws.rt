@@ -11,7 +11,7 @@ ghost use Rattle.wb_judged_sessions.specs.Examples.{IsShared};
 ghost use Rattle.wb_judged_sessions.specs.Days.{HeldIsNear, OursAreInOrder, OursLieAbove};
 ghost use Rattle.wb_judged_sessions.specs.Known.{JudgedStayKnown, KnownBecomeWhole};
 ghost use Rattle.wb_judged_sessions.specs.Knowing.{StaysKnown};
-ghost use Rattle.wb_judged_sessions.specs.Laws.{BoardsAreFiles, FiledReportsTellAgreement, FilesAreWhole, HeldOnce, HeldWasDrawn, JudgedKeepKeptTerms, ListeningTells, MarksWereDrawn, NamesMeanOne, NoneClashes, NumbersCount, OnceHeldWasDrawn, RecordsTell, ReportsTellAgreement, SendsAsKept, SentWasDrawn, WholeBoardsAgree};
+ghost use Rattle.wb_judged_sessions.specs.Laws.{BoardsAreFiles, FilesAreWhole, HeldOnce, HeldWasDrawn, JudgedKeepKeptTerms, ListeningTells, MarksWereDrawn, NamesMeanOne, RecordsTell, SendsAsKept};
 ghost use Rattle.wb_judged_sessions.specs.Meeting.{HaveMet};
 ghost use Rattle.wb_judged_sessions.specs.Acquainted.{IsAnswered, TwinsHaveMet};
 ghost use Rattle.wb_judged_sessions.specs.Sessions.{DrawsAsKept, JudgedIsKept, PlainIsTheSame};
@@ -34,31 +34,14 @@ pub fn judged_sessions_are_kept()
     ensures terms { JudgedKeepKeptTerms }
 {}
 
-/// Two judged members that have one report of a page, and no gaps there, hold and show the same
-/// there, at any two moments, through every start, if programs start with their files, or if
-/// members know their own numbers all the same.
-pub fn judged_reports_tell_agreement()
-    ensures filed { FiledReportsTellAgreement }
-    ensures known { ReportsTellAgreement }
-{}
-
-/// Two judged members that hold all that was drawn on a page hold and show the same there.
-pub fn whole_judged_boards_agree()
-    ensures { WholeBoardsAgree }
-{}
-
-/// Nothing is invented or changed: each drawop that a judged member holds, sends or has a mark of
-/// was drawn by its source, through every start anew, each name means one drawop, and none stands
-/// twice on a board. So no clash comes up.
+/// Nothing is invented or changed: each drawop that a judged member holds or has a mark of was drawn by
+/// its source, through every start anew, each name means one drawop, and none stands twice on a board.
+/// wb_host_sessions has what holds of hosts of any kind: that those with one report of a page agree.
 pub fn judged_boards_are_true()
     ensures held { HeldWasDrawn }
-    ensures before { OnceHeldWasDrawn }
     ensures names { NamesMeanOne }
-    ensures numbers { NumbersCount }
     ensures once { HeldOnce }
-    ensures sent { SentWasDrawn }
     ensures marks { MarksWereDrawn }
-    ensures clashes { NoneClashes }
 {}
 
 /// Judged members whose programs start with all that they drew know their own numbers, so each

@@ -15,6 +15,7 @@ pub mod Recorded
 pub mod Histories
 pub mod StrangeNames
 pub mod Boards
+pub mod Unbroken
 pub mod Again
 pub mod Unrefused
 pub mod Asked

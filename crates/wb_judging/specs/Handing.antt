@@ -54,7 +54,7 @@ abbrev pub report_facts : ℕ → PageId → List MarkValue → Keeping → Fact
 report_facts now page marks k = facts_with now false (own_top page k.host) (lacking page k.host marks) k
 
 abbrev pub facts_of : ℕ → Datagram → Keeping → Facts
-facts_of now (Draw d) k = record (facts_with now (holds k.host d.name) 0 0 k) { above = is_raising d.name.page d.name.seq k.host }
+facts_of now (Draw d) k = record (facts_with now (holds k.host d.name) (highest d.name.page d.name.source k.host) 0 k) { above = is_raising d.name.page d.name.seq k.host }
 facts_of now (Session sender sent page marks echoes) k = report_facts now page marks k
 facts_of now (Request asker name) k = facts_with now (holds k.host name) 0 0 k
 facts_of now (AskPages asker) k = facts_with now false 0 0 k

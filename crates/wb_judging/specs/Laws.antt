@@ -3,7 +3,9 @@ use Rattle.std.specs.Prelude.{◌≡◌, ◌⊎◌, ℕ, ◌+◌, ◌≤◌, Boo
 use Rattle.wb_names.specs.Arrivals.{history_after}
 use Rattle.wb_names.specs.Values.{DrawopValue}
 use Rattle.wb_names.specs.declared.echo.Echo.{Echo}
+use Rattle.wb_names.specs.declared.name.PageId.{PageId}
 use Rattle.wb_names.specs.declared.name.TheConstants.{FIRST_FORGED}
+use Rattle.wb_gaps.specs.Gaps.{IsMissing}
 use Rattle.wb_codec.specs.declared.datagram.Datagram.{Datagram}
 use Rattle.wb_codec.specs.declared.datagram.Datagram.TheVariants.{Draw}
 use Rattle.wb_judge.specs.Adding.{own_echo}
@@ -11,7 +13,8 @@ use Rattle.wb_judge.specs.Days.{time_of_day}
 use Rattle.wb_judge.specs.Judge.{is_firm, is_full, knows}
 use Rattle.wb_judge.specs.Judging.{draws}
 use Rattle.wb_judge.specs.Laws.{StandOnce, is_answer}
-use Rattle.wb_judge.specs.Strange.{names_of}
+use Rattle.wb_judge.specs.Strange.{names_of, row_of}
+use Rattle.wb_judge.specs.Told.{was_told}
 use Rattle.wb_judge.specs.declared.limits.TheConstants.{AHEAD_KNOWN}
 use Rattle.wb_judge.specs.declared.origin.Origin.{Origin}
 use Rattle.wb_member.specs.Judged.{holds}
@@ -88,6 +91,11 @@ MembersAreHandedIn = (now : ℕ) (o : Origin) (d : DrawopValue) (h : Judged) →
 abbrev pub StrangersHushNobody : Type 0
 StrangersHushNobody = (now : ℕ) (o : Origin) (d : DrawopValue) (h : Judged) → knows o now h.judge ≡ false → holds h.kept.host d.name ≡ true
     → handed (CameFrom now o (Draw d)) h ≡ Ticked now
+
+-- What a stranger gives leaves no number of any page missing that was not missing before, unless a member told a number as high.
+abbrev pub StrangersLeaveNoHoles : Type 0
+StrangersLeaveNoHoles = (now : ℕ) (o : Origin) (d : DrawopValue) (h : Judged) → knows o now h.judge ≡ false → was_told (row_of d.name) d.name.seq h.judge.told ≡ false
+    → (page : PageId) (source n : ℕ) → IsMissing (after_judged (CameFrom now o (Draw d)) h).kept.host.is.held page [] source n → IsMissing h.kept.host.is.held page [] source n
 
 -- An origin becomes known by an answer that came from there, and by nothing else.
 abbrev pub OnlyAnswersMakeKnown : Type 0

@@ -26,7 +26,8 @@ pub(crate) fn facts_of(
         Datagram::Draw(drawop) => {
             let name = drawop.name();
             let above = is_raising(kept, name.page(), name.seq());
-            let facts = facts_with(kept, now, kept.member().holds(&name), 0, 0);
+            let top = kept.highest(name.page(), name.source())?;
+            let facts = facts_with(kept, now, kept.member().holds(&name), top, 0);
             Ok(Facts { above, ..facts })
         }
         Datagram::Session { page, marks, .. } => report_facts(kept, now, *page, marks),

@@ -2,7 +2,7 @@
 //! stands here for its clause.
 
 ghost use Rattle.wb_judging.specs.Since.{SincePatches};
-ghost use Rattle.wb_judging.specs.Laws.{ItBeginsAgain, JudgedMembersAreKept, MembersAreHandedIn, RecordLinesAreTaken, NobodyMovesOurTime, OnlyAnswersMakeKnown, OthersHearTheSame, RecordsComeFirst, SendsAsKept, StrangersHushNobody, TheNetworkRefusesNothing, TheRecordIsTheBoard, TheSameOrATick};
+ghost use Rattle.wb_judging.specs.Laws.{ItBeginsAgain, JudgedMembersAreKept, MembersAreHandedIn, RecordLinesAreTaken, NobodyMovesOurTime, OnlyAnswersMakeKnown, OthersHearTheSame, RecordsComeFirst, SendsAsKept, StrangersHushNobody, StrangersLeaveNoHoles, TheNetworkRefusesNothing, TheRecordIsTheBoard, TheSameOrATick};
 ghost use Rattle.wb_judging.specs.Members.{EachKindIsHandedIn, MembersAreKnownAgain, MembersStay, NeededIsHandedIn, OthersDrawopsAreFit, ReportsAreFit};
 
 /// A judged member is a kept member that was handed one line in the place of each: the same line,
@@ -64,6 +64,12 @@ pub fn members_stay()
 /// A stranger puts off no repair of ours.
 pub fn strangers_hush_nobody()
     ensures { StrangersHushNobody }
+{}
+
+/// What a stranger gives leaves no number missing that was not missing before, unless a member told
+/// a number as high of its source on its page.
+pub fn strangers_leave_no_holes()
+    ensures { StrangersLeaveNoHoles }
 {}
 
 /// An origin becomes known by an answer that came from there, and by nothing else.

@@ -12,12 +12,12 @@ use Rattle.wb_policy.specs.Delays.{bounded}
 use Rattle.wb_recovery.specs.declared.limits.TheConstants.{UNKNOWN_DELAY}
 use Rattle.wb_policy.specs.Choices.{echoed_delay, own_echo, own_marks, told_names}
 use Rattle.wb_member.specs.declared.calls.Call.TheVariants.{Hear, SetDelay, Ask, Stop}
-use Rattle.wb_keeping.specs.Kept.{Doing, Line, Says, Transition, and_then, answers, asks_pages, covers, end, ends_full, is_begun, is_unasked, leap, leap_to, leaps_on, learned, measures, paid_for, reports, reports_due, reports_rest, room_lines, state_of, still, stops_one, timed, turn, turn_if, turn_to, turns_due, turns_on, turns_past, want, want_near, want_told, Arrives, hears, hears_session, hears_some, hears_state, of_other, performs, takes, takes_question, lending, hears_request, Calls}
+use Rattle.wb_keeping.specs.Kept.{Doing, Line, Says, Transition, and_then, answers, asks_pages, covers, end, ends_full, is_begun, is_unasked, leap, leap_to, leaps_on, learned, measures, paid_for, reports, reports_due, reports_either, reports_rest, room_lines, state_of, still, stops_one, timed, turn, turn_if, turn_to, turns_due, turns_on, turns_past, want, want_near, want_told, Arrives, hears, hears_session, hears_some, hears_state, of_other, performs, takes, takes_question, lending, hears_request, Calls}
 use Rattle.wb_policy.specs.Policy.{Policy, after_answer, after_beat, after_leaping, after_question, after_turn, after_wanting, in_next_leaps, in_next_round, after_state, after_taking_up}
 use Rattle.wb_keeping.specs.Views.{View, is_asked, is_full, holds}
 use Rattle.wb_policy.specs.Leaps.{far_name}
 use Rattle.wb_policy.specs.Questions.{is_due, is_to_answer}
-use Rattle.wb_policy.specs.Reports.{rest_after}
+use Rattle.wb_policy.specs.Reports.{newest_now, rest_after}
 use Rattle.wb_policy.specs.Turns.{name_in, nowhere}
 use Rattle.wb_policy.specs.Wanting.{giving_way, passes_on, young_count}
 use Rattle.wb_policy.specs.declared.wanting.AskedName.{AskedName}
@@ -189,8 +189,12 @@ module _ (P : Line → Type 0) (is : OfPolicy P) where
   rest_each [] see p = (is.reports _ _ _ _ _, tt)
   rest_each (m ∷ marks) see p = (is.reports _ _ _ _ _, tt)
 
+  either_each : (name : Option NameValue) → DoesEach P (reports_either name)
+  either_each None see p = rest_each (rest_after p.told.until p.told.last (report_of (see []).held p.told.page)) see p
+  either_each (Some name) see p = (is.reports _ _ _ _ _, tt)
+
   pub reports_each : DoesEach P reports
-  reports_each see p = rest_each (rest_after p.until p.told (report_of (see []).held p.told_page)) see p
+  reports_each see p = either_each (newest_now (see []).held p.told) see p
 
   pub due_each : DoesEach P reports_due
   due_each see p =

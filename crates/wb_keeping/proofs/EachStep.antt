@@ -17,18 +17,19 @@ use Rattle.wb_policy.specs.Delays.{bounded}
 use Rattle.wb_recovery.specs.declared.limits.TheConstants.{UNKNOWN_DELAY}
 use Rattle.wb_recovery.specs.Timing.{are_constants}
 use Rattle.wb_recovery.specs.declared.tuning.Tuning.{Tuning}
-use Rattle.wb_policy.specs.Choices.{echoed_delay, own_echo, own_marks, told_names, until_in}
-use Rattle.wb_keeping.specs.Kept.{Arrives, Doing, Line, Says, Transition, and_then, answers, asks_pages, draws, draws_it, drawing, end, ends_full, hears, hears_session, hears_some, hears_state, is_begun, is_unasked, leap, leap_to, leaps_on, learned, measures, performs, reports, reports_due, reports_page, reports_rest, state_of, still, takes, takes_question, timed, turn, turn_if, turn_to, turns_due, turns_on, turns_past, want, want_near, want_told, hears_request, Calls}
+use Rattle.wb_policy.specs.Choices.{echoed_delay, last_source, own_echo, own_marks, told_names, until_in}
+use Rattle.wb_keeping.specs.Kept.{Arrives, Doing, Line, Says, Transition, and_then, answers, asks_pages, draws, draws_it, drawing, end, ends_full, hears, hears_session, hears_some, hears_state, is_begun, is_unasked, leap, leap_to, leaps_on, learned, measures, performs, reports, reports_due, reports_either, reports_page, reports_rest, reports_turn, state_of, still, takes, takes_question, timed, turn, turn_if, turn_to, turns_due, turns_on, turns_past, want, want_near, want_told, hears_request, Calls}
 use Rattle.wb_keeping.specs.Laws.{Added, AreTaken, Came, KeptLine, Ticked, Tuned, after_kept, doing_of, expand, fault_of}
 use Rattle.wb_keeping.specs.Performing.{Keeping, after_doing, after_line, after_lines, sees, view_of}
 use Rattle.wb_policy.specs.Policy.{Policy, after_answer, after_beat, after_came, after_drawing, after_leaping, after_question, after_state, after_taking_up, after_turn, in_next_leaps, in_next_round, after_echo}
 use Rattle.wb_keeping.specs.Views.{View, holds, is_asked, is_full}
 use Rattle.wb_policy.specs.Leaps.{far_name}
 use Rattle.wb_policy.specs.Questions.{is_due, is_to_answer}
-use Rattle.wb_policy.specs.Reports.{is_telling, page_after, rest_after, slice_after}
+use Rattle.wb_policy.specs.Reports.{from_source, is_telling, is_untold, newest_now, page_after, rest_after, slice_after, told_in_turn, told_newest}
 use Rattle.wb_policy.specs.Turns.{name_in, nowhere}
 use Rattle.wb_policy.specs.Wanting.{passes_on, young_count}
 use Rattle.wb_policy.specs.declared.leaps.Leaps.{Leaps}
+use Rattle.wb_policy.specs.declared.reports.Told.{Told}
 use Rattle.wb_policy.specs.declared.turns.Turns.{Turns}
 use Rattle.wb_policy.specs.declared.wanting.AskedName.{AskedName}
 use Rattle.wb_keeping.proofs.Performed.{after_both, seen_then}
@@ -59,8 +60,8 @@ pub record HoldsOfDue (R : Keeping → List Line → Keeping → Type 0) : Type 
   pub answers : (k : Keeping) → is_due (present k.host) k.policy.questions.answer ≡ true
       → R k (map (λ page. Says (state_of (view_of k.host) page)) (take 64 (pages_of k.host.is.held))) (having_done (doing (after_answer (present k.host) (length (take 64 (pages_of k.host.is.held))) k.policy) (map (λ page. Says (state_of (view_of k.host) page)) (take 64 (pages_of k.host.is.held)))) k)
   pub asks_pages : (k : Keeping) → is_due (present k.host) k.policy.questions.ask ≡ true → R k (Says (AskPages k.host.is.number) ∷ []) (with_policy (after_question (present k.host) k.policy) k)
-  pub reports : (page : PageId) (until : ℕ) (told : Option ℕ) (k : Keeping) → nat_le k.policy.reports.due (present k.host) ≡ true
-      → R k (reports_page page until (slice_after told (report_of k.host.is.held page)) (sees k.host) k.policy).lines (after_doing (reports_page page until (slice_after told (report_of k.host.is.held page))) k)
+  pub reports : (page : PageId) (then : Told) (told : Option ℕ) (k : Keeping) → nat_le k.policy.reports.due (present k.host) ≡ true
+      → R k (reports_page page then (slice_after told (report_of k.host.is.held page)) (sees k.host) k.policy).lines (after_doing (reports_page page then (slice_after told (report_of k.host.is.held page))) k)
 
 -- a drawop that comes pays nothing: it was not asked for, or is held, or the board is full, perhaps since it came
 abbrev pub PaysNothing : DrawopValue → Keeping → Type 0
@@ -252,22 +253,32 @@ module _ (R : Keeping → List Line → Keeping → Type 0) (is : HoldsOfDue R) 
   asks_pages_hold k =
       either (HoldsOf R k) (is_due (present k.host) k.policy.questions.ask) (doing (after_question (present k.host) k.policy) (Says (AskPages k.host.is.number) ∷ [])) (still (sees k.host) k.policy) (is.asks_pages k) (λ later. is.nothing k)
 
-  rest_holds : (k : Keeping) → nat_le k.policy.reports.due (present k.host) ≡ true → (marks : List MarkValue) → marks ≡ rest_after k.policy.until k.policy.told (report_of k.host.is.held k.policy.told_page) → HoldsAt R (reports_rest marks) k
+  rest_holds : (k : Keeping) → nat_le k.policy.reports.due (present k.host) ≡ true → (marks : List MarkValue) → marks ≡ rest_after k.policy.told.until k.policy.told.last (report_of k.host.is.held k.policy.told.page) → HoldsAt R (reports_rest marks) k
   rest_holds k due [] e =
-      let page = page_after k.policy.told_page (pages_of k.host.is.held) in
-      is.reports page (until_in (report_of k.host.is.held page)) None k due
-  rest_holds k due (m ∷ marks) e = by (is_telling k.policy.until k.policy.told) e where
-    slice : List MarkValue
-    slice = slice_after k.policy.told (report_of k.host.is.held k.policy.told_page)
+      let page = page_after k.policy.told.page (pages_of k.host.is.held) in
+      let marks = report_of k.host.is.held page in
+      is.reports page (told_in_turn page (until_in marks) (slice_after None marks)) None k due
+  rest_holds k due (m ∷ marks) e = by (is_telling t.until t.last) e where
+    t : Told
+    t = k.policy.told
 
-    by : (b : Bool) → m ∷ marks ≡ cond b slice [] → HoldsAt R (reports_page k.policy.told_page k.policy.until (m ∷ marks)) k
-    by true e = subst (λ (marks : List MarkValue). HoldsAt R (reports_page k.policy.told_page k.policy.until marks) k) (sym e) (is.reports k.policy.told_page k.policy.until k.policy.told k due)
+    slice : List MarkValue
+    slice = slice_after t.last (report_of k.host.is.held t.page)
+
+    by : (b : Bool) → m ∷ marks ≡ cond b slice [] → HoldsAt R (reports_turn t.page t.until (m ∷ marks)) k
+    by true e = subst (λ (marks : List MarkValue). HoldsAt R (reports_turn t.page t.until marks) k) (sym e) (is.reports t.page (told_in_turn t.page t.until slice) t.last k due)
     by false e = absurd cc
+
+  either_holds : (k : Keeping) → nat_le k.policy.reports.due (present k.host) ≡ true → (name : Option NameValue) → HoldsAt R (reports_either name) k
+  either_holds k due None = rest_holds k due (rest_after k.policy.told.until k.policy.told.last (report_of k.host.is.held k.policy.told.page)) refl
+  either_holds k due (Some name) =
+      let marks = report_of k.host.is.held name.page in
+      is.reports name.page (told_newest k.policy.told) (cond (is_untold (last_source None (slice_after None marks)) name.source) (from_source name.source) None) k due
 
   reports_due_hold : Holds R reports_due
   reports_due_hold k =
       either (HoldsOf R k) (nat_le k.policy.reports.due (present k.host)) (reports (sees k.host) k.policy) (still (sees k.host) k.policy)
-      (λ due. rest_holds k due (rest_after k.policy.until k.policy.told (report_of k.host.is.held k.policy.told_page)) refl) (λ later. is.nothing k)
+      (λ due. either_holds k due (newest_now k.host.is.held k.policy.told)) (λ later. is.nothing k)
 
   turns_due_hold : Holds R turns_due
   turns_due_hold k =

@@ -1,6 +1,6 @@
 -- What is left of transitions in the middle of which an allocation failed.
 use Rattle.std.proofs.Common.{◌≡◌, ℕ, zero, suc, ◌+◌, ◌<◌, Bool, true, false, List, [], ◌∷◌, ◌++◌, ap, drop, get_or, length, refl, subst, sym}
-use Rattle.std.specs.Prelude.{Result, Ok, Err, OnErr, take}
+use Rattle.std.specs.Prelude.{Result, Ok, Err, OnErr, OnOk, take}
 use Rattle.wb_names.specs.Values.{NameValue}
 use Rattle.wb_codec.specs.declared.datagram.Datagram.{Datagram}
 use Rattle.wb_member.specs.Holding.{IsOpenAt, MemberValue}
@@ -9,7 +9,7 @@ use Rattle.wb_keeping.specs.Kept.{Doing, Line, Transition, and_then, is_begun, i
 use Rattle.wb_keeping.specs.Performing.{Begins, Does, DoesQuietly, IsKeptAt, Keeping, KeptValue, LeavesSome, after_doing, after_lines, sees, view_of}
 use Rattle.wb_policy.specs.Policy.{Policy}
 use Rattle.wb_keeping.specs.Views.{View}
-use Rattle.wb_keeping.proofs.Performed.{after_both, begun_by, quiet_by, seen_then}
+use Rattle.wb_keeping.proofs.Performed.{after_both, begun_by, does_as, quiet_by, seen_then}
 use Rattle.wb_keeping.proofs.Wanted.{leaps_end, leaps_go_on, turns_end, turns_go_on}
 use Rattle.wb_keeping.proofs.OneByOne.{at_next, begun_first, ended_by, passed_by}
 
@@ -98,6 +98,17 @@ left_as does other {a} {b} same left = record { at = λ k at. left_as_at does ot
 -- What is left of what stands inside is left of the whole.
 pub left_of : {does : Transition} {v old new : KeptValue} → v ≡ old → LeavesSome does v new → LeavesSome does old new
 left_of {does} {v} {old} {new} e left = subst (λ (v : KeptValue). LeavesSome does v new) e left
+
+-- what a call answers that does the same
+pub on_ok_as : (does other : Transition) {a : KeptValue} (b : KeptValue) (before after : List Datagram) {T E : Type 0} (r : Result T E) → ((k : Keeping) → IsKeptAt a k → does (sees k.host) k.policy ≡ other (sees k.host) k.policy)
+    → OnOk r (Does other a b before after) → OnOk r (Does does a b before after)
+on_ok_as does other b before after (Ok x) same it = does_as does other same it
+on_ok_as does other b before after (Err e) same it = tt
+
+pub on_err_as : (does other : Transition) {a : KeptValue} (b : KeptValue) {T E : Type 0} (r : Result T E) → ((k : Keeping) → IsKeptAt a k → does (sees k.host) k.policy ≡ other (sees k.host) k.policy)
+    → OnErr r (LeavesSome other a b) → OnErr r (LeavesSome does a b)
+on_err_as does other b (Ok x) same it = tt
+on_err_as does other b (Err e) same it = left_as does other same it
 
 -- ---- what comes of a transition that may begin to ask for a name
 

@@ -14,12 +14,12 @@ use Rattle.wb_member.specs.Members.{Misses}
 use Rattle.wb_member.specs.Opened.{Opened, doing as doing_act, has_room_for, heard, may_ask, present}
 use Rattle.wb_member.specs.Random.{word_of}
 use Rattle.wb_member.specs.declared.calls.Call.TheVariants.{Tick, Hear, SetDelay, Tune, Look, Ask, Stop}
+use Rattle.wb_policy.specs.declared.reports.Told.{Told}
 use Rattle.wb_keeping.specs.Bounds.{FewNamesAreAsked, LittleIsSaid, answer_count, ask_count, is_ask, is_question, is_report, is_state}
 use Rattle.wb_policy.specs.Credit.{has_credit}
 use Rattle.wb_policy.specs.Delays.{bounded}
 use Rattle.wb_recovery.specs.declared.limits.TheConstants.{UNKNOWN_DELAY}
-use Rattle.wb_policy.specs.Choices.{last_heard}
-use Rattle.wb_keeping.specs.Kept.{Arrives, Doing, Line, Says, covers, reports_page, room_lines, state_of, still, want, lending, Calls}
+use Rattle.wb_keeping.specs.Kept.{Arrives, Doing, Line, Says, covers, reports_page, room_lines, state_of, still, want, lending, Calls, report_echoes}
 use Rattle.wb_keeping.specs.Laws.{AreTaken, KeptLine, after_kept, expand}
 use Rattle.wb_keeping.specs.Performing.{Keeping, after_doing, after_line, after_lines, sees, view_of}
 use Rattle.wb_policy.specs.Policy.{Policy, after_answer, after_came, after_drawing, after_question, after_state, after_taking_up, after_wanting, draws}
@@ -472,14 +472,14 @@ asks_pages_keep k due = record {
 mean_slow : (rate members bytes : ℕ) → 2000000 ≤ min (max (members * bytes * 1000000 / rate) 2000000) 64000000
 mean_slow rate members bytes = omega arith
 
-reports_keep : (page : PageId) (until : ℕ) (told : Option ℕ) (k : Keeping) → nat_le k.policy.reports.due (present k.host) ≡ true
-    → Keeps k (reports_page page until (slice_after told (report_of k.host.is.held page)) (sees k.host) k.policy).lines (after_doing (reports_page page until (slice_after told (report_of k.host.is.held page))) k)
-reports_keep page until told k due = record {
+reports_keep : (page : PageId) (then : Told) (told : Option ℕ) (k : Keeping) → nat_le k.policy.reports.due (present k.host) ≡ true
+    → Keeps k (reports_page page then (slice_after told (report_of k.host.is.held page)) (sees k.host) k.policy).lines (after_doing (reports_page page then (slice_after told (report_of k.host.is.held page))) k)
+reports_keep page then told k due = record {
   at = refl;
   within = λ start wait c d up w.
       let now = present k.host in
       let marks = slice_after told (report_of k.host.is.held page) in
-      let echoes = last_heard (view_of k.host).echoes in
+      let echoes = report_echoes (view_of k.host) k.policy in
       let mean = mean_time k.policy.reports.rate (members_in (view_of k.host).echoes) (32 + 8 * length marks + 20 * length echoes) in
       let slow = mean_slow k.policy.reports.rate (members_in (view_of k.host).echoes) (32 + 8 * length marks + 20 * length echoes) in
       let next = now + mean / 2 + draws mean k.policy in

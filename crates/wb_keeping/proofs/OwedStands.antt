@@ -438,7 +438,7 @@ owed_steps = record {
         steadily k (having_done (doing (after_answer (present k.host) (length (take 64 (pages_of k.host.is.held))) k.policy) (says v pages)) k) (says v pages) refl (subst AreLacked (sym (says_after v pages k.host)) s.lacked) (λ full. subst IsFull (sym (says_after v pages k.host)) full) (ap present (says_after v pages k.host)) (omega arith)
         (let count = ap timer_count (says_after v pages k.host) in omega (arith, count)) s;
     asks_pages = λ k is. same_owed (after_question (present k.host) k.policy) k refl;
-    reports = λ page until told k is. same_owed (reports_page page until (slice_after told (report_of k.host.is.held page)) (sees k.host) k.policy).policy k refl;
+    reports = λ page then told k is. same_owed (reports_page page then (slice_after told (report_of k.host.is.held page)) (sees k.host) k.policy).policy k refl;
   };
   ticks = ticks_sound;
   arrives = λ d k free. pays_nothing d (Arrives d) k refl free;

@@ -224,7 +224,7 @@ steps_pay = record {
     answers = answers_pay;
     asks_pages = λ k due. asking k (Says (AskPages k.host.is.number) ∷ []) (after_question (present k.host) k.policy) refl refl refl
         (λ rate start sent paid. record { since = paid.since; within = paid.within; quiet = paid.quiet; answer = paid.answer });
-    reports = λ page until told k due. let d = reports_page page until (slice_after told (report_of k.host.is.held page)) (sees k.host) k.policy in quietly k d.lines d.policy refl refl refl refl;
+    reports = λ page then told k due. let d = reports_page page then (slice_after told (report_of k.host.is.held page)) (sees k.host) k.policy in quietly k d.lines d.policy refl refl refl refl;
   };
   ticks = ticks_pay;
   arrives = λ d k free. quietly k (Arrives d ∷ []) k.policy refl refl refl refl;

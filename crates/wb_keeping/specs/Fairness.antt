@@ -4,12 +4,12 @@ use Rattle.wb_names.specs.Values.{NameValue}
 use Rattle.wb_codec.specs.declared.datagram.Datagram.TheVariants.{Session}
 use Rattle.wb_recovery.specs.Events.{timers_of}
 use Rattle.wb_recovery.specs.declared.tuning.Tuning.{Tuning}
-use Rattle.wb_policy.specs.Choices.{last_heard}
-use Rattle.wb_policy.specs.Fairness.{Told, after_telling, after_turn, marks_in_turn, page_in_turn}
+use Rattle.wb_policy.specs.Choices.{firsts_of, next_turn}
+use Rattle.wb_policy.specs.Fairness.{after_reporting, after_turn, marks_reported, page_reported}
 use Rattle.wb_policy.specs.Policy.{Policy}
 use Rattle.wb_policy.specs.Wanting.{is_paid}
 use Rattle.wb_member.specs.Opened.{Opened, events, opened_with, present}
-use Rattle.wb_keeping.specs.Kept.{Line, Says, reports, turn, want}
+use Rattle.wb_keeping.specs.Kept.{Line, Says, report_echoes, reports, turn, want}
 use Rattle.wb_keeping.specs.Performing.{Keeping, after_doing, after_lines, view_of}
 use Rattle.wb_keeping.specs.Views.{View, holds, is_asked, is_full, is_known}
 
@@ -17,13 +17,13 @@ use Rattle.wb_keeping.specs.Views.{View, holds, is_asked, is_full, is_known}
 abbrev pub TurnsAreTaken : Type 0
 TurnsAreTaken = (see : List Line → View) (p : Policy) → (turn see p).policy.turns ≡ after_turn (see []).held p.turns
 
--- A report of a policy tells these marks of this page.
+-- A report of a policy tells these marks of this page, and echoes these senders; and turns go on behind both.
 abbrev pub ReportsTell : Type 0
 ReportsTell = (see : List Line → View) (p : Policy)
     → let v = see [] in
-    let t : Told = record { page = p.told_page; last = p.told; until = p.until } in
-    ((reports see p).lines ≡ Says (Session v.me v.now (page_in_turn v.held t) (marks_in_turn v.held t) (last_heard v.echoes)) ∷ [])
-    × ((reports see p).policy.told_page ≡ (after_telling v.held t).page) × ((reports see p).policy.told ≡ (after_telling v.held t).last) × ((reports see p).policy.until ≡ (after_telling v.held t).until)
+    ((reports see p).lines ≡ Says (Session v.me v.now (page_reported v.held p.told) (marks_reported v.held p.told) (report_echoes v p)) ∷ [])
+    × ((reports see p).policy.told ≡ after_reporting v.held p.told)
+    × ((reports see p).policy.echoed ≡ next_turn (firsts_of (is_known v) p.echoed v.echoes) p.echoed (report_echoes v p))
 
 -- ---- what becomes of a name that is wanted
 

@@ -13,19 +13,20 @@ use Rattle.wb_gaps.specs.Holes.{hole_after}
 use Rattle.wb_gaps.specs.declared.holes.Hole.{Hole}
 pub use Rattle.wb_member.specs.Lines.{Line, Arrives, Says, Calls, ticks_at, stops_for}
 use Rattle.wb_member.specs.declared.calls.Call.TheVariants.{Tick, Hear, SetDelay, Ask, Stop}
-use Rattle.wb_policy.specs.Choices.{echoed_delay, last_heard, last_source, near_names, own_echo, own_marks, told_names, until_in}
+use Rattle.wb_policy.specs.Choices.{echoed, echoed_delay, firsts_of, near_names, next_turn, own_echo, own_marks, told_names, until_in}
 use Rattle.wb_policy.specs.Delays.{bounded}
 use Rattle.wb_recovery.specs.declared.limits.TheConstants.{MOST_TIMERS, UNKNOWN_DELAY}
 use Rattle.wb_policy.specs.declared.limits.TheConstants.{MOST_PAGES}
 use Rattle.wb_keeping.specs.Drawings.{drawing_time}
-use Rattle.wb_policy.specs.Policy.{Policy, after_answer, after_beat, after_came, after_drawing, after_leaping, after_question, after_report, after_state, after_taking_up, after_turn, after_wanting, in_next_leaps, in_next_round, after_echo}
+use Rattle.wb_policy.specs.Policy.{Policy, after_answer, after_beat, after_came, after_drawing, after_echoing, after_leaping, after_question, after_report, after_state, after_taking_up, after_turn, after_wanting, in_next_leaps, in_next_round, after_echo}
 use Rattle.wb_keeping.specs.Views.{View, holds, is_asked, is_full, level, is_known}
 use Rattle.wb_policy.specs.Leaps.{far_name}
 use Rattle.wb_policy.specs.Questions.{is_due, is_to_answer}
-use Rattle.wb_policy.specs.Reports.{members_in, page_after, rest_after, slice_after, report_bytes}
+use Rattle.wb_policy.specs.Reports.{members_in, newest_now, page_after, report_bytes, rest_after, slice_after, slice_with, told_in_turn, told_newest}
 use Rattle.wb_policy.specs.Turns.{name_in, nowhere}
 use Rattle.wb_policy.specs.Credit.{is_covered}
 use Rattle.wb_policy.specs.Wanting.{giving_way, is_wanted, passes_on, young_count}
+use Rattle.wb_policy.specs.declared.reports.Told.{Told}
 use Rattle.wb_policy.specs.declared.wanting.AskedName.{AskedName}
 
 -- what a policy does: the lines that its host performs, and the policy afterwards
@@ -172,31 +173,55 @@ asks_pages see p =
     then record { policy = after_question v.now p; lines = Says (AskPages v.me) ∷ [] }
     else still see p
 
--- It reports a page, whose telling ends at a source. A report is the session message of its member, with at most 64 of its marks and 32 of its echoes.
-abbrev pub reports_page : PageId → ℕ → List MarkValue → Transition
-reports_page page until marks see p =
+-- the echoes of a report, and where their turns go on
+abbrev pub report_echoes : View → Policy → List Echo
+report_echoes v p = echoed (is_known v) p.echoed v.echoes
+
+abbrev pub in_next_echoes : View → Policy → Policy
+in_next_echoes v p = after_echoing (next_turn (firsts_of (is_known v) p.echoed v.echoes) p.echoed (report_echoes v p)) p
+
+-- It reports a page, and what reports told so far is then this. A report is the session message of its member, with at most 64 of its
+-- marks and 32 of its echoes.
+abbrev pub reports_page : PageId → Told → List MarkValue → Transition
+reports_page page told marks see p =
     let v = see [] in
-    let echoes = last_heard v.echoes in
+    let echoes = report_echoes v p in
     record {
-      policy = after_report v.now page (last_source None marks) until (members_in v.echoes) (report_bytes marks echoes) p;
+      policy = after_report v.now told (members_in v.echoes) (report_bytes marks echoes) (in_next_echoes v p);
       lines = Says (Session v.me v.now page marks echoes) ∷ [];
     }
+
+-- in turn, it reports a page whose telling ends at a source
+abbrev pub reports_turn : PageId → ℕ → List MarkValue → Transition
+reports_turn page until marks = reports_page page (told_in_turn page until marks) marks
 
 -- the telling of the next page begins
 abbrev pub reports_next : Transition
 reports_next see p =
     let v = see [] in
-    let page = page_after p.told_page (pages_of v.held) in
+    let page = page_after p.told.page (pages_of v.held) in
     let marks = report_of v.held page in
-    reports_page page (until_in marks) (slice_after None marks) see p
+    reports_turn page (until_in marks) (slice_after None marks) see p
 
--- the rest of the page of the last report, or the next page
+-- the rest of the page of the last report in turn, or the next page
 abbrev pub reports_rest : List MarkValue → Transition
 reports_rest [] see p = reports_next see p
-reports_rest (m ∷ marks) see p = reports_page p.told_page p.until (m ∷ marks) see p
+reports_rest (m ∷ marks) see p = reports_turn p.told.page p.told.until (m ∷ marks) see p
+
+abbrev pub reports_in_turn : Transition
+reports_in_turn see p = reports_rest (rest_after p.told.until p.told.last (report_of (see []).held p.told.page)) see p
+
+-- what changed last: the slice with the source of the newest drawop, on its page
+abbrev pub reports_newest : NameValue → Transition
+reports_newest name see p = reports_page name.page (told_newest p.told) (slice_with name.source (report_of (see []).held name.page)) see p
+
+-- the one after the other
+abbrev pub reports_either : Option NameValue → Transition
+reports_either None = reports_in_turn
+reports_either (Some name) = reports_newest name
 
 abbrev pub reports : Transition
-reports see p = reports_rest (rest_after p.until p.told (report_of (see []).held p.told_page)) see p
+reports see p = reports_either (newest_now (see []).held p.told) see p
 
 abbrev pub reports_due : Transition
 reports_due see p = if nat_le p.reports.due (see []).now then reports see p else still see p

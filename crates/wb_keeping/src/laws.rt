@@ -75,7 +75,7 @@ pub fn little_is_said()
 {}
 
 /// A turn is that of the hole that comes next among those of what is held, and a report tells what
-/// comes next of the marks of that.
+/// comes next of the marks of that, or what changed last.
 pub fn turns_are_taken()
     ensures turns { TurnsAreTaken }
     ensures reports { ReportsTell }

@@ -2,7 +2,8 @@
 use Rattle.std.proofs.Common.{◌≡◌, ℕ, ◌≤◌, List, inl, inr, ⊎_elim}
 use Rattle.std.specs.Prelude.{◌⊎◌}
 use Rattle.wb_names.specs.Values.{DrawopValue}
-use Rattle.wb_policy.specs.Fairness.{Told, after_telling, after_tellings, after_turn, after_turns}
+use Rattle.wb_policy.specs.Fairness.{after_reporting, after_reports, after_turn, after_turns}
+use Rattle.wb_policy.specs.declared.reports.Told.{Told}
 use Rattle.wb_policy.specs.Policy.{Policy}
 use Rattle.wb_policy.specs.declared.turns.Turns.{Turns}
 use Rattle.wb_keeping.specs.Kept.{Transition}
@@ -31,11 +32,11 @@ due_of ByTurn p = p.pace.due
 
 -- what is remembered after one, and after some
 abbrev pub state_after : (b : Kind) → List DrawopValue → State b → State b
-state_after ByReport held t = after_telling held t
+state_after ByReport held t = after_reporting held t
 state_after ByTurn held t = after_turn held t
 
 abbrev pub states_after : (b : Kind) → List DrawopValue → ℕ → State b → State b
-states_after ByReport held count t = after_tellings held count t
+states_after ByReport held count t = after_reports held count t
 states_after ByTurn held count t = after_turns held count t
 
 -- by a call at a moment one comes

@@ -25,7 +25,8 @@ use Rattle.wb_policy.specs.Choices.{told_names}
 use Rattle.wb_keeping.specs.Kept.{came}
 use Rattle.wb_keeping.specs.Laws.{Came, fault_of}
 use Rattle.wb_keeping.specs.Performing.{Keeping, after_doing}
-use Rattle.wb_policy.proofs.ToldMarks.{each_mark_is_told}
+use Rattle.wb_policy.proofs.HeldTops.{below_top, page_there, top_held, top_told}
+use Rattle.wb_policy.proofs.Reporting.{each_mark_is_told}
 use Rattle.wb_kept_progress.specs.Repairs.{ComesToTell, HasCome, IsBrought, IsLost, LostCanCome, MarksComeToBeTold, host_at, repair}
 use Rattle.wb_kept_progress.specs.Sessions.{AreHosts, AreSent, AreTaken, LineAt, Opening, at, kept_at}
 use Rattle.wb_kept_progress.proofs.Hearing.{report_asks, report_holds}
@@ -58,41 +59,6 @@ marks_come_to_be_told hosts older j page m taken among there =
     (some_ticks hosts older j (suc told.0), comes_to_tell hosts older j page m told.0 taken told.2 told.3, under (length (some_ticks hosts older j (suc told.0))) told.0 _ many less) where
       under : (a b c : ℕ) → a ≡ suc b → b < c → a ≤ c
       under a b c e lt = omega (arith, e, lt)
-
--- the greatest number of a source on a page stands in the report of the page
-module _ (held : List DrawopValue) (d : DrawopValue) (there : Contains held d) (counted : 1 ≤ d.name.seq) where
-  abbrev on_page : PageId
-  on_page = d.name.page
-
-  abbrev by_source : ℕ
-  by_source = d.name.source
-
-  abbrev greatest : ℕ
-  greatest = highest on_page by_source held
-
-  is_held : IsHeld held on_page by_source d.name.seq
-  is_held = (there.0, d, there.1, there.2, refl)
-
-  pub below_top : d.name.seq ≤ greatest
-  below_top = (greatest_held held on_page by_source).bound d.name.seq is_held
-
-  pub top_held : IsHeld held on_page by_source greatest
-  top_held = by (greatest_held held on_page by_source).reached where
-    by : (greatest ≡ 0) ⊎ IsHeld held on_page by_source greatest → IsHeld held on_page by_source greatest
-    by (inl none) = let le = below_top in absurd (omega (arith, none, le, counted))
-    by (inr h) = h
-
-  pub page_there : Contains (pages_of held) on_page
-  page_there = ((pages_of_history held).members on_page).1 (there.0, d, there.1, there.2, refl)
-
-  pub top_told : Contains (report_of held on_page) (top_mark held on_page by_source)
-  unfolding report_of
-  top_told =
-      let le = below_top in
-      Contains-filter (λ (m : MarkValue). nat_lt 0 m.high) (map (top_mark held on_page) (sources_of held on_page)) (top_mark held on_page by_source)
-      (in_map (top_mark held on_page) (sources_of held on_page) by_source (has_source held on_page by_source d.name.seq is_held)) (above greatest (omega (arith, le, counted))) where
-        above : (n : ℕ) → 0 < n → nat_lt 0 n ≡ true
-        above n lt = grind (arith, nat_tests)
 
 -- ---- what is missing
 

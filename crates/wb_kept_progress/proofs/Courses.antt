@@ -15,12 +15,12 @@ use Rattle.wb_member.specs.Opened.{present}
 use Rattle.wb_member.specs.declared.calls.Call.TheVariants.{Tick, Ask}
 use Rattle.wb_policy.specs.Credit.{spent}
 use Rattle.wb_policy.specs.Fairness.{in_round, name_in_turn}
-use Rattle.wb_keeping.specs.Kept.{Calls, Doing, Line, Says, Transition, and_then, answers, asks_pages, came, hears, performs, reports, reports_due, reports_rest, state_of, still, ticks, timed, turn, turn_by_clock, turn_to, turns_due, want}
+use Rattle.wb_keeping.specs.Kept.{Calls, Doing, Line, Says, Transition, and_then, answers, asks_pages, came, hears, performs, reports, reports_due, reports_either, reports_rest, state_of, still, ticks, timed, turn, turn_by_clock, turn_to, turns_due, want}
 use Rattle.wb_keeping.specs.Performing.{Keeping, after_doing, sees, view_of}
 use Rattle.wb_policy.specs.Policy.{Policy, after_answer, after_beat, after_question, after_turn, after_wanting, in_next_round}
 use Rattle.wb_keeping.specs.Views.{View, holds, is_full, level, is_known}
 use Rattle.wb_policy.specs.Questions.{is_due}
-use Rattle.wb_policy.specs.Reports.{rest_after}
+use Rattle.wb_policy.specs.Reports.{newest_now, rest_after}
 use Rattle.wb_policy.specs.Turns.{name_in, nowhere}
 use Rattle.wb_policy.specs.Wanting.{is_wanted}
 use Rattle.wb_policy.specs.declared.turns.Turns.{Turns}
@@ -131,11 +131,15 @@ rest_plain : (marks : List MarkValue) (k : Keeping) → IsPlain k (lines_by (rep
 rest_plain [] k = record { held = refl; now = refl; turns = refl; owed = refl; asks = (tt, tt) }
 rest_plain (m ∷ marks) k = record { held = refl; now = refl; turns = refl; owed = refl; asks = (tt, tt) }
 
+either_plain : (name : Option NameValue) (k : Keeping) → IsPlain k (lines_by (reports_either name) k) (after_doing (reports_either name) k)
+either_plain None k = rest_plain (rest_after k.policy.told.until k.policy.told.last (report_of k.host.is.held k.policy.told.page)) k
+either_plain (Some name) k = record { held = refl; now = refl; turns = refl; owed = refl; asks = (tt, tt) }
+
 report_plain : (k : Keeping)
     → IsPlain k (lines_by reports_due k) (after_doing reports_due k) × ((after_doing reports_due k).policy.pace.due ≡ k.policy.pace.due)
 report_plain k = (by (nat_le k.policy.reports.due (present k.host)), (reports_leave (sees k.host) k.policy).beat) where
   by : (b : Bool) → (let d : Doing = cond b (reports (sees k.host) k.policy) (still (sees k.host) k.policy) in IsPlain k d.lines (having_done d k))
-  by true = rest_plain (rest_after k.policy.until k.policy.told (report_of k.host.is.held k.policy.told_page)) k
+  by true = either_plain (newest_now k.host.is.held k.policy.told) k
   by false = record { held = refl; now = refl; turns = refl; owed = refl; asks = tt }
 
 -- What is due asks for the name in turn, once a turn is due, and spends for that alone.

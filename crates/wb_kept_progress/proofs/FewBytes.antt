@@ -31,6 +31,7 @@ use Rattle.wb_kept_progress.specs.Traffic.{IsLittle, how_many, is_page_question,
 use Rattle.wb_kept_progress.proofs.Lengths.{Every, drawop_long, few_bytes, question_long, request_long, same_bytes, session_long, state_long}
 use Rattle.wb_kept_progress.proofs.Pauses.{lawful_echoes}
 use Rattle.wb_kept_progress.proofs.SentEach.{Tells, kept_sends}
+use Rattle.wb_keeping.specs.Views.{is_known}
 use Rattle.wb_kept_progress.proofs.SentKinds.{little_is_sent}
 
 every_mapped : {P Q : Datagram → Type 0} → ((v : Datagram) → P v → Q v) → (sent : List Datagram) → Every P sent → Every Q sent
@@ -107,7 +108,7 @@ steps_short = record {
     beats = λ k due. tt;
     answers = λ k due. states_each TellsShort (view_of k.host) (λ page. slices_are_short None (report_of k.host.is.held page)) (take 64 (pages_of k.host.is.held));
     asks_pages = λ k due. (tt, tt);
-    reports = λ page until told k due. (reports_are_small told (report_of k.host.is.held page) (view_of k.host).echoes (lawful_echoes k.host.is.number k.host.is.calls (present k.host)), tt);
+    reports = λ page until told k due. (reports_are_small told (report_of k.host.is.held page) (is_known (view_of k.host)) k.policy.echoed (view_of k.host).echoes (lawful_echoes k.host.is.number k.host.is.calls (present k.host)), tt);
   };
   ticks = λ now k later. (tt, tt);
   arrives = λ d k free. (tt, tt);

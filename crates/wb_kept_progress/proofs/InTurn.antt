@@ -12,14 +12,13 @@ use Rattle.wb_gaps.specs.Answers.{report_of}
 use Rattle.wb_keeper.specs.Keeper.{holds}
 use Rattle.wb_member.specs.Judged.{is_full}
 use Rattle.wb_member.specs.Opened.{present, asks_for}
-use Rattle.wb_policy.specs.Fairness.{Told, after_telling, after_turn, marks_in_turn, name_in_turn, page_in_turn}
+use Rattle.wb_policy.specs.Fairness.{after_reporting, after_turn, marks_reported, name_in_turn, page_reported}
+use Rattle.wb_policy.specs.declared.reports.Told.{Told}
 use Rattle.wb_keeping.specs.Fairness.{AnswersWhatIsHeld}
-use Rattle.wb_policy.specs.Choices.{last_heard}
-use Rattle.wb_keeping.specs.Kept.{Doing, Line, Transition, and_then, answers, asks_pages, reports, reports_due, still, timed, turn, turn_by_clock, turns_due}
+use Rattle.wb_keeping.specs.Kept.{Doing, Line, Transition, and_then, answers, asks_pages, reports, reports_due, still, timed, turn, turn_by_clock, turns_due, report_echoes}
 use Rattle.wb_keeping.specs.Performing.{Keeping, after_doing, after_lines, sees, sent_by_doing, sent_by_lines, view_of}
 use Rattle.wb_policy.specs.Pace.{gap_within}
 use Rattle.wb_policy.specs.Policy.{Policy, after_beat}
-use Rattle.wb_policy.specs.Reports.{rest_after}
 use Rattle.wb_keeping.proofs.EachStep.{with_policy}
 use Rattle.wb_keeping.proofs.TakenTurns.{turns_are_taken}
 use Rattle.wb_keeping.proofs.Performed.{then_after, then_sent}
@@ -27,7 +26,7 @@ use Rattle.wb_keeping.proofs.ToldReports.{reports_tell}
 use Rattle.wb_kept_progress.proofs.Lines.{IsOf, Rests, lines_of, IsSmall, are_small, does_rest}
 use Rattle.wb_kept_progress.proofs.WantedIn.{IsAskedIn, IsAskedInCall, LacksCredit, IsWantedIn, MayBeWanted, turn_wants, wanted_later, IsAskedThen, asked_at_end, turn_owed, same_may}
 use Rattle.wb_keeping.proofs.EachLine.{answers_each, asks_pages_each, due_each, timed_each, turn_each}
-use Rattle.wb_kept_progress.proofs.Leaving.{Leaves, LeavesTurns, answers_leave, asks_leave, reports_leave, rest_late, rest_soon, told_of, turn_tells, turns_tell}
+use Rattle.wb_kept_progress.proofs.Leaving.{Leaves, LeavesTurns, answers_leave, asks_leave, reports_late, reports_leave, reports_soon, told_of, turn_tells, turns_tell}
 use Rattle.wb_policy.specs.Credit.{has_credit}
 use Rattle.wb_policy.specs.declared.limits.TheConstants.{COST}
 use Rattle.wb_policy.proofs.Gaps.{gap_least, gap_most}
@@ -66,12 +65,12 @@ pub record IsSilent (does : Transition) (k : Keeping) (now : ℕ) : Type 0 where
 -- a report is due and is made
 pub record IsReporting (does : Transition) (k : Keeping) (now : ℕ) : Type 0 where
   pub late : k.policy.reports.due ≤ now
-  pub told : told_of (after_doing does k).policy ≡ after_telling k.host.is.held (told_of k.policy)
+  pub told : told_of (after_doing does k).policy ≡ after_reporting k.host.is.held (told_of k.policy)
   pub least : now + 1000000 ≤ (after_doing does k).policy.reports.due
   pub most : (after_doing does k).policy.reports.due ≤ now + 96000000
   pub moment : ℕ
   pub echoes : List Echo
-  pub sends : Contains (sent_by_doing does k) (Session k.host.is.number moment (page_in_turn k.host.is.held (told_of k.policy)) (marks_in_turn k.host.is.held (told_of k.policy)) echoes)
+  pub sends : Contains (sent_by_doing does k) (Session k.host.is.number moment (page_reported k.host.is.held (told_of k.policy)) (marks_reported k.host.is.held (told_of k.policy)) echoes)
 
 -- no turn is due
 pub record IsIdle (does : Transition) (k : Keeping) (now : ℕ) : Type 0 where
@@ -204,36 +203,33 @@ module _ (m : Keeping) where
     pub there : reported ≡ r
     there = ap by_report is_due_now
 
-    pub due_tells : told_of (after_doing timed m).policy ≡ after_telling m.host.is.held (told_of m.policy)
+    pub due_tells : told_of (after_doing timed m).policy ≡ after_reporting m.host.is.held (told_of m.policy)
     due_tells =
         let tells = reports_tell (sees q.host) q.policy in
-        let t = told_of q.policy in
-        let then : told_of r.policy ≡ after_telling q.host.is.held t =
-        λ i. let u : Told = record { page = tells.1 i; last = tells.2 i; until = tells.3 i } in u in
-        timed_told ∙ ap (λ (x : Keeping). told_of x.policy) there ∙ then
-        ∙ ap (λ (h : List DrawopValue). after_telling h t) held_q ∙ ap (after_telling m.host.is.held) told_q
+        timed_told ∙ ap (λ (x : Keeping). told_of x.policy) there ∙ tells.1
+        ∙ ap (λ (h : List DrawopValue). after_reporting h (told_of q.policy)) held_q ∙ ap (after_reporting m.host.is.held) told_q
 
     pub due_is : (after_doing timed m).policy.reports.due ≡ r.policy.reports.due
     due_is = timed_due ∙ ap (λ (x : Keeping). x.policy.reports.due) there
 
     pub due_soon : (after_doing timed m).policy.reports.due ≤ present m.host + 96000000
     due_soon =
-        let soon = rest_soon (rest_after q.policy.until q.policy.told (report_of q.host.is.held q.policy.told_page)) (sees q.host) q.policy in
+        let soon = reports_soon (sees q.host) q.policy in
         let n = now_q in
         let e = due_is in
         omega (arith, soon, n, e)
 
     pub due_later : present m.host + 1000000 ≤ (after_doing timed m).policy.reports.due
     due_later =
-        let later = rest_late (rest_after q.policy.until q.policy.told (report_of q.host.is.held q.policy.told_page)) (sees q.host) q.policy in
+        let later = reports_late (sees q.host) q.policy in
         let n = now_q in
         let e = due_is in
         omega (arith, later, n, e)
 
     abbrev report : Datagram
     report =
-        Session q.host.is.number (present q.host) (page_in_turn q.host.is.held (told_of q.policy)) (marks_in_turn q.host.is.held (told_of q.policy))
-        (last_heard (view_of q.host).echoes)
+        Session q.host.is.number (present q.host) (page_reported q.host.is.held (told_of q.policy)) (marks_reported q.host.is.held (told_of q.policy))
+        (report_echoes (view_of q.host) q.policy)
 
     report_sent : Contains (sent_by_doing reports q) report
     report_sent =
@@ -254,19 +250,19 @@ module _ (m : Keeping) where
         (Contains-append_right (sent_by_doing answers m) (sent_by_doing (and_then asks_pages two) a) report three)
 
     pub due_sends : (held : List DrawopValue) (number : ℕ) (t : Told) → m.host.is.held ≡ held → m.host.is.number ≡ number → told_of m.policy ≡ t
-        → (moment : ℕ) × (echoes : List Echo) × Contains (sent_by_doing timed m) (Session number moment (page_in_turn held t) (marks_in_turn held t) echoes)
+        → (moment : ℕ) × (echoes : List Echo) × Contains (sent_by_doing timed m) (Session number moment (page_reported held t) (marks_reported held t) echoes)
     due_sends held number t same_held same_number same_told =
-        (present q.host, last_heard (view_of q.host).echoes, subst (λ (v : Datagram). Contains (sent_by_doing timed m) v) same all_sent) where
+        (present q.host, report_echoes (view_of q.host) q.policy, subst (λ (v : Datagram). Contains (sent_by_doing timed m) v) same all_sent) where
           echoes : List Echo
-          echoes = last_heard (view_of q.host).echoes
+          echoes = report_echoes (view_of q.host) q.policy
 
-          same : report ≡ Session number (present q.host) (page_in_turn held t) (marks_in_turn held t) echoes
+          same : report ≡ Session number (present q.host) (page_reported held t) (marks_reported held t) echoes
           same =
-              ap (λ (me : ℕ). Session me (present q.host) (page_in_turn q.host.is.held (told_of q.policy)) (marks_in_turn q.host.is.held (told_of q.policy)) echoes)
+              ap (λ (me : ℕ). Session me (present q.host) (page_reported q.host.is.held (told_of q.policy)) (marks_reported q.host.is.held (told_of q.policy)) echoes)
               (number_q ∙ same_number)
-              ∙ ap (λ (h : List DrawopValue). Session number (present q.host) (page_in_turn h (told_of q.policy)) (marks_in_turn h (told_of q.policy)) echoes)
+              ∙ ap (λ (h : List DrawopValue). Session number (present q.host) (page_reported h (told_of q.policy)) (marks_reported h (told_of q.policy)) echoes)
               (held_q ∙ same_held)
-              ∙ ap (λ (u : Told). Session number (present q.host) (page_in_turn held u) (marks_in_turn held u) echoes) (told_q ∙ same_told)
+              ∙ ap (λ (u : Told). Session number (present q.host) (page_reported held u) (marks_reported held u) echoes) (told_q ∙ same_told)
 
   -- no turn is due
   module _ (early : present m.host < m.policy.pace.due) where
@@ -396,7 +392,7 @@ module _ (does : Transition) (k : Keeping) (now : ℕ) (call : IsTimedCall does 
         late = late;
         told =
             ap (λ (x : Keeping). told_of x.policy) call.behind ∙ due_tells here late_m
-            ∙ ap (λ (h : List DrawopValue). after_telling h (told_of here.policy)) call.held ∙ ap (after_telling k.host.is.held) call.policy.told;
+            ∙ ap (λ (h : List DrawopValue). after_reporting h (told_of here.policy)) call.held ∙ ap (after_reporting k.host.is.held) call.policy.told;
         least = omega (arith, later, e, n);
         most = omega (arith, soon, e, n);
         moment = sent.0;

@@ -16,19 +16,21 @@ use Rattle.wb_keeper.specs.Keeper.{holds}
 use Rattle.wb_progress.specs.InTime.{known_from, repairing}
 use Rattle.wb_progress.specs.Turns.{IsNowAt, Terms, settled_by}
 use Rattle.wb_member.specs.Opened.{present}
-use Rattle.wb_policy.specs.Fairness.{HaveAtMost, Told, after_tellings, after_turns, marks_in_turn, name_in_turn, page_in_turn, slices_of, slices_on}
+use Rattle.wb_policy.specs.Fairness.{HaveAtMost, after_reports, after_turns, marks_reported, name_in_turn, page_reported, slices_of, slices_on}
+use Rattle.wb_policy.specs.declared.reports.Told.{Told}
 use Rattle.wb_policy.specs.Choices.{told_names}
 use Rattle.wb_keeping.specs.Kept.{came}
 use Rattle.wb_keeping.specs.Laws.{KeptLine, doing_of}
 use Rattle.wb_keeping.specs.Performing.{Keeping, after_doing, sent_by_doing}
 use Rattle.wb_policy.specs.Policy.{Policy}
 use Rattle.wb_policy.proofs.FairTurns.{each_number_has_its_turn_soon}
-use Rattle.wb_policy.proofs.ToldMarks.{each_mark_is_told}
+use Rattle.wb_policy.proofs.Reporting.{each_mark_is_told}
+use Rattle.wb_policy.proofs.HeldTops.{below_top, page_there, top_held, top_told}
 use Rattle.wb_kept_progress.specs.Sessions.{Opening}
 use Rattle.wb_kept_progress.specs.Timed.{SaysNow, TimedLine, called_at, host_after, lines_of, performed, start_of, until}
 use Rattle.wb_kept_progress.specs.Whole.{AreCalledInOrder, AreSoon, AreWithin, HolesAreHeld, IsHandedIn, IsHeldBySome, IsTimelySession, Sizes, there, wanting}
 use Rattle.wb_kept_progress.proofs.CallParts.{calls_end, lacked_until}
-use Rattle.wb_kept_progress.proofs.Coming.{below_top, missing_below, named_in, page_there, top_held, top_told}
+use Rattle.wb_kept_progress.proofs.Coming.{missing_below, named_in}
 use Rattle.wb_kept_progress.proofs.Beats.{ByReport, ByTurn, Kind, state_of, states_after}
 use Rattle.wb_kept_progress.proofs.OwedAndDue.{beat_there}
 use Rattle.wb_kept_progress.proofs.NextDue.{DueWithin, First, IsBehind, IsCut, before_is, cut, held_there, is_behind, next_behind, ordered, quiet_before, quiet_behind, room_there, split_there, state_there, still_older, still_there, told_there, window_there}
@@ -87,7 +89,7 @@ module _ (was_held : HeldWasHeld) (hosts : ℕ → Opening) (terms : Terms) (tra
 
   -- by then enough have come
   abbrev enough : ℕ
-  enough = sizes.slices * span ByReport + sizes.turning
+  enough = 2 * sizes.slices * span ByReport + sizes.turning
 
   abbrev by : ℕ
   by = from + wanting terms sizes
@@ -148,8 +150,8 @@ module _ (was_held : HeldWasHeld) (hosts : ℕ → Opening) (terms : Terms) (tra
   abbrev told_in : (k : ℕ) (live : Contains terms.live k) (count : ℕ) (p : BehindAt ByReport k live count) → NextAt ByReport k live count p → Datagram
   told_in k live count p r =
       let h = there hosts (r.between ++ p.part) k in
-      Session h.host.is.number r.comes.moment (page_in_turn h.host.is.held (told_of h.policy))
-      (marks_in_turn h.host.is.held (told_of h.policy)) r.comes.echoes
+      Session h.host.is.number r.comes.moment (page_reported h.host.is.held (told_of h.policy))
+      (marks_reported h.host.is.held (told_of h.policy)) r.comes.echoes
 
   abbrev WantedBy : ℕ → Type 0
   WantedBy i = IsWanting hosts terms trace window base i from by
@@ -214,7 +216,7 @@ module _ (was_held : HeldWasHeld) (hosts : ℕ → Opening) (terms : Terms) (tra
         let less = turn.1 in
         let most = more_turns sizes.numbers (length (holes_of (held_by i))) sizes.holes holes in
         let fits : suc count * span ByTurn ≤ enough =
-        under (sizes.slices * span ByReport) (more_spans (suc count) (2 * sizes.numbers * sizes.holes) (span ByTurn) (one_less count (2 * sizes.numbers * length (holes_of (held_by i))) (2 * sizes.numbers * sizes.holes) less most)) long in
+        under (2 * sizes.slices * span ByReport) (more_spans (suc count) (2 * sizes.numbers * sizes.holes) (span ByTurn) (one_less count (2 * sizes.numbers * length (holes_of (held_by i))) (2 * sizes.numbers * sizes.holes) less most)) long in
         let b = behind_at ByTurn i live count (in_time_at_least ByTurn count fits) in
         let n_is = turn.2 ∙ ap (λ (source : ℕ). Some (name_of n.page source n.seq)) h.source in
         at_turn n held lacks count fits b n_is where
@@ -268,8 +270,8 @@ module _ (was_held : HeldWasHeld) (hosts : ℕ → Opening) (terms : Terms) (tra
       -- `count` reports come before the one that tells it
       record IsToldAt (count : ℕ) : Type 0 where
         fits : suc count * span ByReport ≤ enough
-        page_is : page_in_turn (held_by j) (after_tellings (held_by j) count u) ≡ page
-        among : Contains (marks_in_turn (held_by j) (after_tellings (held_by j) count u)) mark
+        page_is : page_reported (held_by j) (after_reports (held_by j) count u) ≡ page
+        among : Contains (marks_reported (held_by j) (after_reports (held_by j) count u)) mark
 
       told_at : (count : ℕ) × IsToldAt count
       told_at =
@@ -280,8 +282,8 @@ module _ (was_held : HeldWasHeld) (hosts : ℕ → Opening) (terms : Terms) (tra
           (small.slices (newest ++ st.front) (st.grown ++ base) j (cut_split st) live_j (cut_quiet st)) in
           let t = each_mark_is_told (held_by j) u page mark (page_there (held_by j) d there_d counted) (top_told (held_by j) d there_d counted) in
           let less = t.1 in
-          (t.0, record { fits = under (more_spans (suc t.0) sizes.slices (span ByReport) (one_less t.0 (slices_of (held_by j) + slices_on (held_by j) u.page) sizes.slices less slices)); page_is = t.2; among = t.3 }) where
-            one_less : (count a slices : ℕ) → count < a → a ≤ slices → suc count ≤ slices
+          (t.0, record { fits = under (more_spans (suc t.0) (2 * sizes.slices) (span ByReport) (one_less t.0 (slices_of (held_by j) + slices_on (held_by j) u.page) sizes.slices less slices)); page_is = t.2; among = t.3 }) where
+            one_less : (count a slices : ℕ) → count < 2 * a → a ≤ slices → suc count ≤ 2 * slices
             one_less count a slices lt le = omega (arith, lt, le)
 
             under : {a b : ℕ} → a ≤ b → a ≤ b + sizes.turning
@@ -357,21 +359,21 @@ module _ (was_held : HeldWasHeld) (hosts : ℕ → Opening) (terms : Terms) (tra
               kj_held : kj.host.is.held ≡ held_by j
               kj_held = held_next ByReport j live_j count b r
 
-              kj_told : told_of kj.policy ≡ after_tellings (held_by j) count u
+              kj_told : told_of kj.policy ≡ after_reports (held_by j) count u
               kj_told = state_next ByReport j live_j count b r
 
               told_page : PageId
-              told_page = page_in_turn kj.host.is.held (told_of kj.policy)
+              told_page = page_reported kj.host.is.held (told_of kj.policy)
 
               marks : List MarkValue
-              marks = marks_in_turn kj.host.is.held (told_of kj.policy)
+              marks = marks_reported kj.host.is.held (told_of kj.policy)
 
               page_is : told_page ≡ page
-              page_is = ap (λ (x : List DrawopValue). page_in_turn x (told_of kj.policy)) kj_held ∙ ap (page_in_turn (held_by j)) kj_told ∙ t.page_is
+              page_is = ap (λ (x : List DrawopValue). page_reported x (told_of kj.policy)) kj_held ∙ ap (page_reported (held_by j)) kj_told ∙ t.page_is
 
               among : Contains marks mark
               among = subst (λ (x : List MarkValue). Contains x mark)
-                  (sym (ap (λ (x : List DrawopValue). marks_in_turn x (told_of kj.policy)) kj_held ∙ ap (marks_in_turn (held_by j)) kj_told)) t.among
+                  (sym (ap (λ (x : List DrawopValue). marks_reported x (told_of kj.policy)) kj_held ∙ ap (marks_reported (held_by j)) kj_told)) t.among
 
               other : kj.host.is.number ≡ k.host.is.number → ⊥
               other e =

@@ -9,15 +9,16 @@ use Rattle.wb_codec.specs.declared.datagram.Datagram.{Datagram}
 use Rattle.wb_codec.specs.declared.datagram.Datagram.TheVariants.{Session}
 use Rattle.wb_gaps.specs.Answers.{top_mark}
 use Rattle.wb_progress.specs.Turns.{Terms}
-use Rattle.wb_policy.specs.Fairness.{Told, after_telling, marks_in_turn, page_in_turn, slices_of}
+use Rattle.wb_policy.specs.Fairness.{after_reporting, marks_reported, page_reported, slices_of}
+use Rattle.wb_policy.specs.declared.reports.Told.{Told}
 use Rattle.wb_keeping.specs.Laws.{doing_of}
 use Rattle.wb_keeping.specs.Performing.{Keeping, after_doing, sent_by_doing}
+use Rattle.wb_policy.proofs.HeldTops.{below_top, top_held}
 use Rattle.wb_kept_progress.specs.Sessions.{Opening}
 use Rattle.wb_kept_progress.specs.Telling.{EndsAtMark, HasMark, HeldNumbersAreTold, IsTold, LastNumbersAreTold}
 use Rattle.wb_kept_progress.specs.Timed.{TimedLine, called_at, lines_of}
 use Rattle.wb_kept_progress.specs.Whole.{AreCalledInOrder, IsTimelySession, ReportWithin, sends_then, there}
 use Rattle.wb_kept_progress.proofs.CallParts.{calls_end}
-use Rattle.wb_kept_progress.proofs.Coming.{below_top, top_held}
 use Rattle.wb_kept_progress.proofs.Leaving.{told_of}
 use Rattle.wb_kept_progress.proofs.NextDue.{ordered, quiet_behind, there_here}
 use Rattle.wb_kept_progress.proofs.Repairs.{of_opening}
@@ -102,11 +103,11 @@ module _ (hosts : ℕ → Opening) (terms : Terms) (trace newest window base : L
     ends_now : EndsAtMark held_now told_before
     ends_now = ends_later k.host.is.held held_now told_before (calls_grow hosts (r.e ∷ []) older j) (subst (EndsAtMark k.host.is.held) r.told (ends_there_at hosts older j))
 
-    told_now : told_at now ≡ after_telling held_now told_before
+    told_now : told_at now ≡ after_reporting held_now told_before
     told_now =
         ap (λ (x : Keeping). told_of x.policy) now_is ∙ r.reports.told
-        ∙ ap (λ (x : Keeping). after_telling x.host.is.held (told_of k.policy)) (sym now_is)
-        ∙ ap (after_telling held_now) r.told
+        ∙ ap (λ (x : Keeping). after_reporting x.host.is.held (told_of k.policy)) (sym now_is)
+        ∙ ap (after_reporting held_now) r.told
 
     -- it tells the number, or fewer are left
     tells : TellsMark whole page source held_now told_before → IsToldThen
@@ -124,24 +125,24 @@ module _ (hosts : ℕ → Opening) (terms : Terms) (trace newest window base : L
         after = not_before;
         soon = soon;
         sent = r.reports.moment;
-        marks = marks_in_turn held_now told_before;
+        marks = marks_reported held_now told_before;
         echoes = r.reports.echoes;
         report = subst (λ (t : List TimedLine). Contains (sends_then hosts t r.e) report) between_is report_there;
         among = tells_it.1;
       };
     } where
       report : Datagram
-      report = Session (hosts j).number r.reports.moment page (marks_in_turn held_now told_before) r.reports.echoes
+      report = Session (hosts j).number r.reports.moment page (marks_reported held_now told_before) r.reports.echoes
 
       d_now : Contains held_now d
       d_now = subst (λ (t : List TimedLine). Contains (there hosts t j).host.is.held d) (sym base_is) (calls_grow hosts (r.e ∷ (r.between ++ grown)) base j d there_d)
 
-      same : Session k.host.is.number r.reports.moment (page_in_turn (after_doing (doing_of r.e.at.line) k).host.is.held (told_of k.policy)) (marks_in_turn (after_doing (doing_of r.e.at.line) k).host.is.held (told_of k.policy)) r.reports.echoes ≡ report
+      same : Session k.host.is.number r.reports.moment (page_reported (after_doing (doing_of r.e.at.line) k).host.is.held (told_of k.policy)) (marks_reported (after_doing (doing_of r.e.at.line) k).host.is.held (told_of k.policy)) r.reports.echoes ≡ report
       same =
-          ap (λ (x : Keeping). Session k.host.is.number r.reports.moment (page_in_turn x.host.is.held (told_of k.policy)) (marks_in_turn x.host.is.held (told_of k.policy)) r.reports.echoes) (sym now_is)
-          ∙ ap (λ (t : Told). Session k.host.is.number r.reports.moment (page_in_turn held_now t) (marks_in_turn held_now t) r.reports.echoes) r.told
-          ∙ ap (λ (p : PageId). Session k.host.is.number r.reports.moment p (marks_in_turn held_now told_before) r.reports.echoes) tells_it.0
-          ∙ ap (λ (me : ℕ). Session me r.reports.moment page (marks_in_turn held_now told_before) r.reports.echoes) (of_opening hosts (lines_of older) j).number
+          ap (λ (x : Keeping). Session k.host.is.number r.reports.moment (page_reported x.host.is.held (told_of k.policy)) (marks_reported x.host.is.held (told_of k.policy)) r.reports.echoes) (sym now_is)
+          ∙ ap (λ (t : Told). Session k.host.is.number r.reports.moment (page_reported held_now t) (marks_reported held_now t) r.reports.echoes) r.told
+          ∙ ap (λ (p : PageId). Session k.host.is.number r.reports.moment p (marks_reported held_now told_before) r.reports.echoes) tells_it.0
+          ∙ ap (λ (me : ℕ). Session me r.reports.moment page (marks_reported held_now told_before) r.reports.echoes) (of_opening hosts (lines_of older) j).number
 
       report_there : Contains (sends_then hosts older r.e) report
       report_there =
@@ -151,7 +152,7 @@ module _ (hosts : ℕ → Opening) (terms : Terms) (trace newest window base : L
     tells_or_nearer : IsToldThen ⊎ (left whole page source (told_at now) + 1 ≤ left whole page source told_before)
     tells_or_nearer = ⊎_elim
         (λ (told : TellsMark whole page source held_now told_before). inl (tells told))
-        (λ (fewer : left whole page source (after_telling held_now told_before) + 1 ≤ left whole page source told_before). inr (subst (λ (t : Told). left whole page source t + 1 ≤ left whole page source told_before) (sym told_now) fewer))
+        (λ (fewer : left whole page source (after_reporting held_now told_before) + 1 ≤ left whole page source told_before). inr (subst (λ (t : Told). left whole page source t + 1 ≤ left whole page source told_before) (sym told_now) fewer))
         (comes_nearer whole page source held_now grows_now has_now told_before ends_now)
 
   -- ---- one after the other
@@ -187,11 +188,11 @@ module _ (hosts : ℕ → Opening) (terms : Terms) (trace newest window base : L
             behind soon (omega (arith, due, soon, behind, behind_since)) (omega (arith, fewer, few)) (omega (arith, fits)))
             (tells_or_nearer front grown part is split r (omega (arith, soon, fits)))
 
-  goes_all : (slices : ℕ) → slices_of whole ≤ slices → called_at base + 2 * slices * span ≤ by → IsToldThen
+  goes_all : (slices : ℕ) → slices_of whole ≤ slices → called_at base + 4 * slices * span ≤ by → IsToldThen
   goes_all slices few fits =
       let due = within (newest ++ window) base j (split_all ∙ sym (append_assoc newest window base)) live in
       let most = few_left_at_first whole page source (told_at base) (has window) in
-      goes (2 * slices) window [] base (called_at base) refl (sym (append-nil window)) (omega arith) (omega arith) (omega (arith, due, behind_since)) (omega (arith, most, few)) fits
+      goes (4 * slices) window [] base (called_at base) refl (sym (append-nil window)) (omega arith) (omega arith) (omega (arith, due, behind_since)) (omega (arith, most, few)) fits
 
   -- it is the number, or a greater one
   is_greater : IsToldThen → (high : ℕ) × (d.name.seq ≤ high) × IsTold hosts window base j by page (record { source = source; high = high })
@@ -212,7 +213,7 @@ module _ (hosts : ℕ → Opening) (terms : Terms) (trace newest window base : L
         let least = below_top held d r.holds_it counted in
         omega (arith, most, number, least)
 
-  module _ (slices : ℕ) (few : slices_of whole ≤ slices) (fits : called_at base + 2 * slices * span ≤ by) where
+  module _ (slices : ℕ) (few : slices_of whole ≤ slices) (fits : called_at base + 4 * slices * span ≤ by) where
     pub told_or_greater : (high : ℕ) × (d.name.seq ≤ high) × IsTold hosts window base j by page (record { source = source; high = high })
     told_or_greater = is_greater (goes_all slices few fits)
 
@@ -223,11 +224,11 @@ module _ (hosts : ℕ → Opening) (terms : Terms) (trace newest window base : L
 pub held_numbers_are_told : HeldNumbersAreTold
 held_numbers_are_told hosts terms trace newest window base slices since pause j d s within have split live late behind_since there_d counted before_end =
     told_or_greater hosts terms trace newest window base since pause j d s within split live late behind_since there_d counted
-    (called_at base + 2 * slices * (pause + terms.late)) before_end slices
+    (called_at base + 4 * slices * (pause + terms.late)) before_end slices
     (have newest (window ++ base) j split live (quiet_behind hosts terms trace s newest window base split late)) (omega arith)
 
 pub last_numbers_are_told : LastNumbersAreTold
 last_numbers_are_told hosts terms trace newest window base slices since pause j d s within have split live late behind_since there_d counted last before_end =
     told_as_last hosts terms trace newest window base since pause j d s within split live late behind_since there_d counted
-    (called_at base + 2 * slices * (pause + terms.late)) before_end slices
+    (called_at base + 4 * slices * (pause + terms.late)) before_end slices
     (have newest (window ++ base) j split live (quiet_behind hosts terms trace s newest window base split late)) (omega arith) last

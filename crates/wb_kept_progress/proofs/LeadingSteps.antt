@@ -21,7 +21,7 @@ use Rattle.wb_policy.specs.Credit.{has_credit, leaves_some}
 use Rattle.wb_policy.specs.Leaps.{far_in, far_name}
 use Rattle.wb_policy.specs.Policy.{Policy, after_answer, after_question, after_beat, after_leaping, after_turn, after_wanting, in_next_leaps, in_next_round}
 use Rattle.wb_policy.specs.Questions.{is_due}
-use Rattle.wb_policy.specs.Reports.{rest_after}
+use Rattle.wb_policy.specs.Reports.{newest_now, rest_after}
 use Rattle.wb_policy.specs.Turns.{name_in, nowhere, number_in}
 use Rattle.wb_policy.specs.Wanting.{goes_on, is_paid, passes_on, young_count}
 use Rattle.wb_policy.specs.declared.leaps.Leaps.{Leaps}
@@ -31,7 +31,7 @@ use Rattle.wb_policy.proofs.Cycle.{found_at}
 use Rattle.wb_policy.proofs.FilledHoles.{hole_filled}
 use Rattle.wb_policy.proofs.HolesRise.{holes_rise}
 use Rattle.wb_keeping.specs.Fairness.{AnswersWhatIsHeld}
-use Rattle.wb_keeping.specs.Kept.{Doing, Line, Says, Transition, and_then, answers, asks_pages, covers, is_begun, is_unasked, leap, leap_to, leaps_on, reports, reports_due, reports_rest, state_of, still, timed, turn, turn_by_clock, turn_if, turn_to, turns_on, turns_past, want, want_near}
+use Rattle.wb_keeping.specs.Kept.{Doing, Line, Says, Transition, and_then, answers, asks_pages, covers, is_begun, is_unasked, leap, leap_to, leaps_on, reports, reports_due, reports_either, reports_rest, state_of, still, timed, turn, turn_by_clock, turn_if, turn_to, turns_on, turns_past, want, want_near}
 use Rattle.wb_keeping.specs.Performing.{Keeping, after_doing, sees, view_of}
 use Rattle.wb_keeping.specs.Views.{View, is_asked, is_known, level, holds as holds_by, is_full as is_full_by}
 use Rattle.wb_keeping.proofs.EachLine.{want_each}
@@ -458,8 +458,12 @@ reports_stay k = by (nat_le k.policy.reports.due (present k.host)) where
   rest [] = refl
   rest (m ∷ marks) = refl
 
+  report : (name : Option NameValue) → (after_doing (reports_either name) k).host ≡ k.host
+  report None = rest (rest_after k.policy.told.until k.policy.told.last (report_of k.host.is.held k.policy.told.page))
+  report (Some name) = refl
+
   by : (b : Bool) → (having_done (cond b (reports (sees k.host) k.policy) (still (sees k.host) k.policy)) k).host ≡ k.host
-  by true = rest (rest_after k.policy.until k.policy.told (report_of k.host.is.held k.policy.told_page))
+  by true = report (newest_now k.host.is.held k.policy.told)
   by false = refl
 
 same_host : (k m : Keeping) → m.host ≡ k.host → AsksForMissing k → AsksForMissing m

@@ -9,18 +9,18 @@ use Rattle.wb_codec.specs.declared.datagram.Datagram.TheVariants.{Draw, Session,
 use Rattle.wb_gaps.specs.Answers.{pages_of, report_of}
 use Rattle.wb_gaps.specs.Holes.{hole_after}
 use Rattle.wb_gaps.specs.declared.holes.Hole.{Hole}
-use Rattle.wb_policy.specs.Fairness.{Told}
+use Rattle.wb_policy.specs.declared.reports.Told.{Told}
 use Rattle.wb_member.specs.declared.calls.Call.TheVariants.{Hear}
 use Rattle.wb_keeping.specs.Fairness.{AnswersWhatIsHeld}
 use Rattle.wb_policy.specs.Choices.{echoed_delay, own_echo, own_marks, told_names}
-use Rattle.wb_keeping.specs.Kept.{Arrives, Doing, Line, Says, Transition, and_then, answers, asks_pages, end, hears, hears_session, hears_some, hears_state, is_begun, is_unasked, leap, leap_to, leaps_on, learned, measures, of_other, paid_for, performs, reports, reports_due, reports_rest, state_of, still, takes, takes_question, turn, turn_if, turn_to, turns_due, turns_on, turns_past, want, want_near, want_told, hears_request, Calls}
+use Rattle.wb_keeping.specs.Kept.{Arrives, Doing, Line, Says, Transition, and_then, answers, asks_pages, end, hears, hears_session, hears_some, hears_state, is_begun, is_unasked, leap, leap_to, leaps_on, learned, measures, of_other, paid_for, performs, reports, reports_due, reports_either, reports_rest, state_of, still, takes, takes_question, turn, turn_if, turn_to, turns_due, turns_on, turns_past, want, want_near, want_told, hears_request, Calls}
 use Rattle.wb_keeping.specs.Performing.{Keeping, after_doing, sees}
 use Rattle.wb_policy.specs.Policy.{Policy, after_answer, after_beat, after_leaping, after_question, after_state, after_taking_up, after_turn, after_wanting, in_next_leaps, in_next_round}
 use Rattle.wb_keeping.specs.Views.{View, holds, is_asked, is_full}
 use Rattle.wb_policy.specs.Leaps.{far_name}
 use Rattle.wb_recovery.specs.declared.limits.TheConstants.{MOST_TIMERS}
 use Rattle.wb_policy.specs.Questions.{is_due, is_to_answer}
-use Rattle.wb_policy.specs.Reports.{next_report, rest_after}
+use Rattle.wb_policy.specs.Reports.{newest_now, next_report, rest_after}
 use Rattle.wb_policy.specs.Turns.{name_in, nowhere}
 use Rattle.wb_policy.specs.Wanting.{passes_on, young_count}
 use Rattle.wb_policy.specs.Words.{word_of}
@@ -33,7 +33,7 @@ answers_on does k old name = lines_answer_held name (does (sees k.host) k.policy
 
 -- what a policy told last
 abbrev pub told_of : Policy → Told
-told_of p = record { page = p.told_page; last = p.told; until = p.until }
+told_of p = p.told
 
 -- ---- what is due before a report, and a report
 
@@ -71,10 +71,14 @@ rest_leaves : (marks : List MarkValue) (see : List Line → View) (p : Policy) �
 rest_leaves [] see p = record { turns = refl; owed = refl; beat = refl }
 rest_leaves (m ∷ marks) see p = record { turns = refl; owed = refl; beat = refl }
 
+either_leaves : (name : Option NameValue) (see : List Line → View) (p : Policy) → LeavesTurns p (reports_either name see p).policy
+either_leaves None see p = rest_leaves (rest_after p.told.until p.told.last (report_of (see []).held p.told.page)) see p
+either_leaves (Some name) see p = record { turns = refl; owed = refl; beat = refl }
+
 pub reports_leave : (see : List Line → View) (p : Policy) → LeavesTurns p (reports_due see p).policy
 reports_leave see p = by (nat_le p.reports.due (see []).now) where
   by : (b : Bool) → LeavesTurns p (let d : Doing = cond b (reports see p) (still see p) in d.policy)
-  by true = rest_leaves (rest_after p.until p.told (report_of (see []).held p.told_page)) see p
+  by true = either_leaves (newest_now (see []).held p.told) see p
   by false = record { turns = refl; owed = refl; beat = refl }
 
 -- a report is followed by the next within 96 seconds, and a second later at least
@@ -86,18 +90,32 @@ next_soon now sum word = by (min (max sum 2000000) 64000000) (omega arith) where
   by : (mean : ℕ) → mean ≤ 64000000 → next_report now mean (word % (mean + 1)) ≤ now + 96000000
   by mean le = let few = under word mean in omega (arith, le, few)
 
-pub rest_soon : (marks : List MarkValue) (see : List Line → View) (p : Policy) → (reports_rest marks see p).policy.reports.due ≤ (see []).now + 96000000
+rest_soon : (marks : List MarkValue) (see : List Line → View) (p : Policy) → (reports_rest marks see p).policy.reports.due ≤ (see []).now + 96000000
 rest_soon [] see p = next_soon (see []).now _ (word_of p.words)
 rest_soon (m ∷ marks) see p = next_soon (see []).now _ (word_of p.words)
+
+either_soon : (name : Option NameValue) (see : List Line → View) (p : Policy) → (reports_either name see p).policy.reports.due ≤ (see []).now + 96000000
+either_soon None see p = rest_soon (rest_after p.told.until p.told.last (report_of (see []).held p.told.page)) see p
+either_soon (Some name) see p = next_soon (see []).now _ (word_of p.words)
+
+pub reports_soon : (see : List Line → View) (p : Policy) → (reports see p).policy.reports.due ≤ (see []).now + 96000000
+reports_soon see p = either_soon (newest_now (see []).held p.told) see p
 
 pub next_late : (now sum drawn : ℕ) → now + 1000000 ≤ next_report now (min (max sum 2000000) 64000000) drawn
 next_late now sum drawn = by (min (max sum 2000000) 64000000) (omega arith) where
   by : (mean : ℕ) → 2000000 ≤ mean → now + 1000000 ≤ now + mean / 2 + drawn
   by mean le = omega (arith, le)
 
-pub rest_late : (marks : List MarkValue) (see : List Line → View) (p : Policy) → (see []).now + 1000000 ≤ (reports_rest marks see p).policy.reports.due
+rest_late : (marks : List MarkValue) (see : List Line → View) (p : Policy) → (see []).now + 1000000 ≤ (reports_rest marks see p).policy.reports.due
 rest_late [] see p = next_late (see []).now _ _
 rest_late (m ∷ marks) see p = next_late (see []).now _ _
+
+either_late : (name : Option NameValue) (see : List Line → View) (p : Policy) → (see []).now + 1000000 ≤ (reports_either name see p).policy.reports.due
+either_late None see p = rest_late (rest_after p.told.until p.told.last (report_of (see []).held p.told.page)) see p
+either_late (Some name) see p = next_late (see []).now _ _
+
+pub reports_late : (see : List Line → View) (p : Policy) → (see []).now + 1000000 ≤ (reports see p).policy.reports.due
+reports_late see p = either_late (newest_now (see []).held p.told) see p
 
 -- ---- what is heard, asked for and turned to tells nothing, and puts neither a report nor a turn off
 

@@ -27,17 +27,17 @@ use Rattle.wb_member.specs.Members.{Misses}
 use Rattle.wb_member.specs.Opened.{Opened, doing as does_act, may_ask, present}
 use Rattle.wb_member.specs.Random.{word_of as member_word}
 use Rattle.wb_member.specs.declared.calls.Call.TheVariants.{Tick, SetDelay, Ask, Stop}
-use Rattle.wb_policy.specs.Choices.{last_heard}
 use Rattle.wb_policy.specs.Policy.{Policy, after_answer, after_question, after_wanting}
+use Rattle.wb_policy.specs.Choices.{last_source}
 use Rattle.wb_policy.specs.Questions.{is_due}
-use Rattle.wb_policy.specs.Reports.{is_telling, mean_time, members_in, next_report, page_after, report_bytes, rest_after, slice_after}
+use Rattle.wb_policy.specs.Reports.{from_source, is_telling, is_untold, mean_time, members_in, newest_now, next_report, page_after, report_bytes, rest_after, slice_after}
 use Rattle.wb_policy.specs.Words.{word_of}
 use Rattle.wb_policy.specs.declared.limits.TheConstants.{HEARD}
 use Rattle.wb_policy.proofs.Latest.{reports_are_small}
-use Rattle.wb_keeping.specs.Kept.{Calls, Doing, Line, Says, Transition, answers, asks_pages, hears, performs, reports, reports_due, reports_rest, state_of, still, timed, turns_due, want}
+use Rattle.wb_keeping.specs.Kept.{Calls, Doing, Line, Says, Transition, answers, asks_pages, hears, performs, reports, reports_due, reports_either, reports_rest, state_of, still, timed, turns_due, want, report_echoes}
 use Rattle.wb_keeping.specs.Laws.{KeptLine, Came, Ticked, Added, Tuned, doing_of, fault_of}
-use Rattle.wb_keeping.specs.Performing.{Keeping, after_doing, after_line, after_lines, sees}
-use Rattle.wb_keeping.specs.Views.{View}
+use Rattle.wb_keeping.specs.Performing.{Keeping, after_doing, after_line, after_lines, sees, view_of}
+use Rattle.wb_keeping.specs.Views.{View, is_known}
 use Rattle.wb_keeping.proofs.EachLine.{DoesEach, answers_each, asks_pages_each, due_each, turns_each}
 use Rattle.wb_keeping.proofs.EachStep.{HoldsOfSteps, having, line_holds, timed_holds}
 use Rattle.wb_keeping.proofs.Performed.{then_after}
@@ -92,11 +92,11 @@ module _ (me : ℕ) (calls : List KeeperCall) (now : ℕ) where
   }
 
 -- what is left of a telling fits into a report
-rest_small : (until : ℕ) (told : Option ℕ) (marks : List MarkValue) (es : List Echo) → AreEchoes es → report_bytes (rest_after until told marks) (last_heard es) ≤ 1184
-rest_small until told marks es lawful = by (is_telling until told) where
-  by : (b : Bool) → report_bytes (cond b (slice_after told marks) []) (last_heard es) ≤ 1184
-  by true = reports_are_small told marks es lawful
-  by false = reports_are_small told [] es lawful
+rest_small : (until : ℕ) (told : Option ℕ) (marks : List MarkValue) (v : View) (p : Policy) → AreEchoes v.echoes → report_bytes (rest_after until told marks) (report_echoes v p) ≤ 1184
+rest_small until told marks v p lawful = by (is_telling until told) where
+  by : (b : Bool) → report_bytes (cond b (slice_after told marks) []) (report_echoes v p) ≤ 1184
+  by true = reports_are_small told marks (is_known v) p.echoed v.echoes lawful
+  by false = reports_are_small told [] (is_known v) p.echoed v.echoes lawful
 
 -- ---- the mean time
 
@@ -123,15 +123,27 @@ next_by now mean longest word le = let few = under word mean in omega (arith, fe
 
 module _ (least most : ℕ) (some : 1 ≤ least) where
   rest_pause : (marks : List MarkValue) (see : List Line → View) (p : Policy) → least ≤ p.reports.rate → members_in (see []).echoes ≤ most
-      → AreEchoes (see []).echoes → report_bytes marks (last_heard (see []).echoes) ≤ 1184
+      → AreEchoes (see []).echoes → report_bytes marks (report_echoes (see []) p) ≤ 1184
       → (reports_rest marks see p).policy.reports.due ≤ (see []).now + pause_of least most
   rest_pause [] see p more few lawful small =
-      let marks = report_of (see []).held (page_after p.told_page (pages_of (see []).held)) in
+      let marks = report_of (see []).held (page_after p.told.page (pages_of (see []).held)) in
       next_by (see []).now _ _ (word_of p.words)
-      (sooner_mean p.reports.rate (members_in (see []).echoes) (report_bytes (slice_after None marks) (last_heard (see []).echoes)) least most some more few (reports_are_small None marks (see []).echoes lawful))
+      (sooner_mean p.reports.rate (members_in (see []).echoes) (report_bytes (slice_after None marks) (report_echoes (see []) p)) least most some more few (reports_are_small None marks (is_known (see [])) p.echoed (see []).echoes lawful))
   rest_pause (m ∷ marks) see p more few lawful small =
       next_by (see []).now _ _ (word_of p.words)
-      (sooner_mean p.reports.rate (members_in (see []).echoes) (report_bytes (m ∷ marks) (last_heard (see []).echoes)) least most some more few small)
+      (sooner_mean p.reports.rate (members_in (see []).echoes) (report_bytes (m ∷ marks) (report_echoes (see []) p)) least most some more few small)
+
+  report_pause : (name : Option NameValue) (see : List Line → View) (p : Policy) → least ≤ p.reports.rate → members_in (see []).echoes ≤ most → AreEchoes (see []).echoes
+      → (reports_either name see p).policy.reports.due ≤ (see []).now + pause_of least most
+  report_pause None see p more few lawful =
+      let t = p.told in
+      let marks = report_of (see []).held t.page in
+      rest_pause (rest_after t.until t.last marks) see p more few lawful (rest_small t.until t.last marks (see []) p lawful)
+  report_pause (Some name) see p more few lawful =
+      let marks = report_of (see []).held name.page in
+      let told = cond (is_untold (last_source None (slice_after None marks)) name.source) (from_source name.source) None in
+      next_by (see []).now _ _ (word_of p.words)
+      (sooner_mean p.reports.rate (members_in (see []).echoes) (report_bytes (slice_after told marks) (report_echoes (see []) p)) least most some more few (reports_are_small told marks (is_known (see [])) p.echoed (see []).echoes lawful))
 
 -- ---- what a policy asks and tells leaves the echoes
 
@@ -174,7 +186,7 @@ rates_stay = record {
     beats = λ k due. refl;
     answers = λ k is. refl;
     asks_pages = λ k is. refl;
-    reports = λ page until told k is. refl;
+    reports = λ page then told k is. refl;
   };
   ticks = λ now k later. refl;
   arrives = λ d k free. refl;
@@ -234,9 +246,6 @@ module _ (least most : ℕ) (some : 1 ≤ least) where
     abbrev r : Keeping
     r = after_doing reports q
 
-    abbrev marks : List MarkValue
-    marks = rest_after q.policy.until q.policy.told (report_of q.host.is.held q.policy.told_page)
-
     reported : m.policy.reports.due ≤ present m.host → (after_doing timed m).policy.reports.due ≤ present (after_doing timed m).host + pause_of least most
     reported late =
         let as_before : echoes (after_doing timed m).host ≡ echoes q.host =
@@ -246,8 +255,7 @@ module _ (least most : ℕ) (some : 1 ≤ least) where
         let counted : members_in (echoes q.host) ≤ most = subst (λ (es : List Echo). members_in es ≤ most) as_before few in
         let lawful = lawful_echoes q.host.is.number q.host.is.calls (present q.host) in
         let soon : r.policy.reports.due ≤ present q.host + pause_of least most =
-        rest_pause least most some marks (sees q.host) q.policy (subst (λ (x : ℕ). least ≤ x) rate more) counted lawful
-        (rest_small q.policy.until q.policy.told (report_of q.host.is.held q.policy.told_page) (echoes q.host) lawful) in
+        report_pause least most some (newest_now q.host.is.held q.policy.told) (sees q.host) q.policy (subst (λ (x : ℕ). least ≤ x) rate more) counted lawful in
         let due = due_is m late in
         let now = timed_now m in
         let now_q : present q.host ≡ present m.host = (does_rest asks_pages (asks_pages_each IsSmall are_small) a).now ∙ (does_rest answers (answers_each IsSmall are_small) m).now in

@@ -10,6 +10,7 @@ use Rattle.wb_gaps.proofs.HeldNames.{held-from}
 use Rattle.wb_progress.specs.Turns.{Terms, settled_by}
 use Rattle.wb_progress.proofs.Giving.{held_as}
 use Rattle.wb_keeper.specs.Keeper.{holds}
+use Rattle.wb_policy.proofs.HeldTops.{below_top, top_told}
 use Rattle.wb_kept_progress.specs.Filling.{ReportTheSame, SameReportsLeaveHoles}
 use Rattle.wb_kept_progress.specs.Promises.{host_then}
 use Rattle.wb_kept_progress.specs.Sessions.{Opening}
@@ -17,7 +18,7 @@ use Rattle.wb_kept_progress.specs.Timed.{TimedLine, called_at, performed, until}
 use Rattle.wb_kept_progress.specs.Whole.{AreCalledInOrder, IsHeldBySome, IsTimelySession, there}
 use Rattle.wb_kept_progress.proofs.Becoming.{held_on}
 use Rattle.wb_kept_progress.proofs.CallParts.{lacked_until}
-use Rattle.wb_kept_progress.proofs.Coming.{below_top, missing_below, top_told}
+use Rattle.wb_kept_progress.proofs.Coming.{missing_below}
 use Rattle.wb_kept_progress.proofs.ToldHeld.{report_held}
 use Rattle.wb_kept_progress.proofs.WindowParts.{calls_past}
 

@@ -10,7 +10,7 @@ use Rattle.wb_codec.specs.declared.datagram.Datagram.TheVariants.{Session}
 use Rattle.wb_progress.specs.Turns.{Terms}
 use Rattle.wb_member.specs.Opened.{present}
 use Rattle.wb_member.specs.declared.calls.Call.TheVariants.{Tick}
-use Rattle.wb_policy.specs.Fairness.{after_telling, marks_in_turn, page_in_turn}
+use Rattle.wb_policy.specs.Fairness.{after_reporting, marks_reported, page_reported}
 use Rattle.wb_policy.specs.Policy.{Policy, after_drawing}
 use Rattle.wb_keeping.specs.Kept.{Calls, Doing, Line, Transition, and_then, drawing, draws_it, drew, end, ends_full, hears, performs, still, timed}
 use Rattle.wb_keeping.specs.Laws.{KeptLine, Came, Ticked, Added, Tuned, doing_of}
@@ -68,12 +68,12 @@ record IsQuiet (does : Transition) (k : Keeping) : Type 0 where
 
 -- one is due, and is made of what is held then
 pub record Reports (does : Transition) (k : Keeping) : Type 0 where
-  pub told : told_of (after_doing does k).policy ≡ after_telling (after_doing does k).host.is.held (told_of k.policy)
+  pub told : told_of (after_doing does k).policy ≡ after_reporting (after_doing does k).host.is.held (told_of k.policy)
   pub moment : ℕ
   pub echoes : List Echo
   pub sends :
       let held = (after_doing does k).host.is.held in
-      Contains (sent_by_doing does k) (Session k.host.is.number moment (page_in_turn held (told_of k.policy)) (marks_in_turn held (told_of k.policy)) echoes)
+      Contains (sent_by_doing does k) (Session k.host.is.number moment (page_reported held (told_of k.policy)) (marks_reported held (told_of k.policy)) echoes)
 
 ends_call : (does : Transition) (k : Keeping) → EndsTimed does k → IsQuiet does k ⊎ Reports does k
 ends_call does k e = ⊎_elim
@@ -83,8 +83,8 @@ ends_call does k e = ⊎_elim
     let sent = due_sends e.m late (after_doing does k).host.is.held k.host.is.number (told_of k.policy) (sym held) e.number e.told in
     inr (record {
       told =
-          ap (λ (x : Keeping). told_of x.policy) e.behind ∙ due_tells e.m late ∙ ap (after_telling e.m.host.is.held) e.told
-          ∙ ap (λ (h : List DrawopValue). after_telling h (told_of k.policy)) (sym held);
+          ap (λ (x : Keeping). told_of x.policy) e.behind ∙ due_tells e.m late ∙ ap (after_reporting e.m.host.is.held) e.told
+          ∙ ap (λ (h : List DrawopValue). after_reporting h (told_of k.policy)) (sym held);
       moment = sent.0;
       echoes = sent.1;
       sends = e.sends _ sent.2;

@@ -3,6 +3,7 @@ use Rattle.std.proofs.Common.{◌≡◌, ℕ, zero, suc, ◌+◌, ◌-◌, ◌*�
 use Rattle.std.specs.Prelude.{◌⊎◌, ◌/◌, ◌&&◌, Contains, filter, nat_le, nat_lt}
 use Rattle.std.specs.List.Sorted.{IsStrictlySortedBy}
 use Rattle.std.proofs.lemmas.Bool.{and_from, and_parts, le-leb, leb-true, lt-ltb, ltb-false, ltb-true}
+use Rattle.std.proofs.lemmas.Option.{none-some}
 use Rattle.wb_names.specs.Orders.{page_cmp, same_page}
 use Rattle.wb_names.specs.Values.{DrawopValue, MarkValue, NameValue}
 use Rattle.wb_names.specs.declared.name.PageId.{PageId}
@@ -11,13 +12,15 @@ use Rattle.wb_names.proofs.Orders.{same_page-is}
 use Rattle.wb_gaps.specs.Answers.{pages_of, report_of, sources_of, top_mark}
 use Rattle.wb_gaps.proofs.HeldNumbers.{same_page-here}
 use Rattle.wb_gaps.proofs.PageAnswers.{pages_of_history}
-use Rattle.wb_policy.specs.Choices.{last_source, until_in}
-use Rattle.wb_policy.specs.Fairness.{Told, after_telling, left_to_tell, marks_in_turn, page_in_turn, slices_of, slices_on, where_left}
-use Rattle.wb_policy.specs.Reports.{is_telling, is_untold, page_after, slice_after}
+use Rattle.wb_policy.specs.Choices.{last_source, newest, until_in}
+use Rattle.wb_policy.specs.Fairness.{after_reporting, after_telling, left_to_tell, marks_in_turn, marks_reported, page_in_turn, page_reported, slices_of, slices_on, where_left, where_newest}
+use Rattle.wb_policy.specs.declared.reports.Told.{Told}
+use Rattle.wb_policy.specs.Reports.{is_telling, is_untold, newest_now, page_after, slice_after, slice_with, told_newest}
+use Rattle.wb_policy.proofs.HeldTops.{page_there, top_told}
 use Rattle.wb_kept_progress.specs.Telling.{AreGrowing, EachMarkIsToldOfGrowing, EndsAtMark, HasMark, after_growing}
-use Rattle.wb_kept_progress.proofs.Coming.{page_there, top_told}
 use Rattle.wb_kept_progress.proofs.PagesInTurn.{all_where, begins_behind, count_where, fewer_where, goes_on, is_between, next_page, one_where, reaches, sum_where}
-use Rattle.wb_kept_progress.proofs.Slices.{Rise, count_above, fewer_above, first_or_above, none_above, report_rises, rise_first, rise_untold}
+use Rattle.wb_policy.proofs.Slices.{Rise, first_or_above, none_above, report_rises, rise_first, rise_untold}
+use Rattle.wb_kept_progress.proofs.Slices.{count_above, fewer_above}
 use Rattle.wb_kept_progress.proofs.ToldHeld.{report_held}
 
 -- ---- the marks of a board
@@ -101,6 +104,7 @@ then_told held t marks = record {
   page = where_left marks (next_of held t) t.page;
   last = last_source None (where_left marks (slice_after None (report_of held (next_of held t))) marks);
   until = where_left marks (until_in (report_of held (next_of held t))) t.until;
+  in_turn = true;
 }
 
 -- something is left while the telling goes on
@@ -121,13 +125,19 @@ ends_there held page is = by (report_of held page) is where
   by [] is = absurd (tells_some 0 is)
   by (m ∷ marks) is = last_is m marks
 
-pub ends_still : (held : List DrawopValue) (t : Told) → EndsAtMark held t → EndsAtMark held (after_telling held t)
-ends_still held t ends = by (left_to_tell held t) refl where
+pub ends_in_turn : (held : List DrawopValue) (t : Told) → EndsAtMark held t → EndsAtMark held (after_telling held t)
+ends_in_turn held t ends = by (left_to_tell held t) refl where
   by : (marks : List MarkValue) → left_to_tell held t ≡ marks → EndsAtMark held (then_told held t (left_to_tell held t))
   by [] e = subst (λ (ms : List MarkValue). EndsAtMark held (then_told held t ms)) (sym e) (λ is.
       let x = ends_there held (next_of held t) is in
       subst (HasMark held (next_of held t)) (sym x.2) (has_mark held (next_of held t) x.0 x.1))
   by (m ∷ marks) e = subst (λ (ms : List MarkValue). EndsAtMark held (then_told held t ms)) (sym e) (λ is. ends (is_on held t m marks e))
+
+pub ends_still : (held : List DrawopValue) (t : Told) → EndsAtMark held t → EndsAtMark held (after_reporting held t)
+ends_still held t ends = by (newest_now held t) where
+  by : (name : Option NameValue) → EndsAtMark held (where_newest name (after_telling held t) (λ name. told_newest t))
+  by None = ends_in_turn held t ends
+  by (Some name) = ends
 
 pub ends_later : (held more : List DrawopValue) (t : Told) → GrowsTo held more → EndsAtMark held t → EndsAtMark more t
 ends_later held more t grows ends = λ is. mark_stays held more t.page t.until grows (ends is)
@@ -162,12 +172,12 @@ module _ (whole : List DrawopValue) (to : PageId) (source : ℕ) where
   abbrev later : PageId → ℕ
   later page = sum_where (slices_on whole) (is_between page to) (pages_of whole)
 
-  abbrev pub left : Told → ℕ
-  left t = telling t + cond (comes t) 0 (later t.page)
+  abbrev pub left_in_turn : Told → ℕ
+  left_in_turn t = telling t + cond (comes t) 0 (later t.page)
 
   -- the next report tells the mark
-  abbrev pub TellsMark : List DrawopValue → Told → Type 0
-  TellsMark held t = (page_in_turn held t ≡ to) × Contains (marks_in_turn held t) (top_mark held to source)
+  abbrev pub TellsInTurn : List DrawopValue → Told → Type 0
+  TellsInTurn held t = (page_in_turn held t ≡ to) × Contains (marks_in_turn held t) (top_mark held to source)
 
   module _ (held : List DrawopValue) (grows : GrowsTo held whole) (has : HasMark held to source) where
     -- ---- a slice of a page
@@ -215,10 +225,10 @@ module _ (whole : List DrawopValue) (to : PageId) (source : ℕ) where
 
       -- what the next report does
       abbrev Nearer : Type 0
-      Nearer = TellsMark held t ⊎ (left (after_telling held t) + 1 ≤ left t)
+      Nearer = TellsInTurn held t ⊎ (left_in_turn (after_telling held t) + 1 ≤ left_in_turn t)
 
-      nearer_then : (marks : List MarkValue) → rest_of ≡ marks → left (then marks) + 1 ≤ left t → Nearer
-      nearer_then marks e le = inr (subst (λ (ms : List MarkValue). left (then ms) + 1 ≤ left t) (sym e) le)
+      nearer_then : (marks : List MarkValue) → rest_of ≡ marks → left_in_turn (then marks) + 1 ≤ left_in_turn t → Nearer
+      nearer_then marks e le = inr (subst (λ (ms : List MarkValue). left_in_turn (then ms) + 1 ≤ left_in_turn t) (sym e) le)
 
       -- ---- the telling goes on
 
@@ -274,7 +284,7 @@ module _ (whole : List DrawopValue) (to : PageId) (source : ℕ) where
                 both true false n o more f g le = absurd (true≢false (sym g))
                 both false b n o more f g le = absurd (true≢false (sym f))
 
-                still : is_untold (last_source t.last (slice t.last t.page)) source ≡ true → left (then (m ∷ marks)) + 1 ≤ left t
+                still : is_untold (last_source t.last (slice t.last t.page)) source ≡ true → left_in_turn (then (m ∷ marks)) + 1 ≤ left_in_turn t
                 still untold_then =
                     let untold_last : is_untold last_then source ≡ true = ap (λ (o : Option ℕ). is_untold o source) (sym last_is_then) ∙ untold_then in
                     let comes_then : comes (then (m ∷ marks)) ≡ true =
@@ -385,7 +395,7 @@ module _ (whole : List DrawopValue) (to : PageId) (source : ℕ) where
               under n more o true is le = absurd (true≢false is)
               under n more o false is le = omega (arith, le)
 
-              comes_to : length first ≡ 64 → is_untold (last_source None first) source ≡ true → left (then []) + 1 ≤ left t
+              comes_to : length first ≡ 64 → is_untold (last_source None first) source ≡ true → left_in_turn (then []) + 1 ≤ left_in_turn t
               comes_to long untold =
                   let comes_then : comes (then []) ≡ true =
                   and_from (same_page next to) _ (same_page-here next to same)
@@ -393,7 +403,7 @@ module _ (whole : List DrawopValue) (to : PageId) (source : ℕ) where
                   (and_from (is_untold (last_source None first) source) _ untold (le-leb source (until_in (report_of held next)) below))) in
                   let one = one_where (slices_on whole) (is_between t.page to) (pages_of whole) next next_there is_next.1 in
                   let le = fits (comes (then [])) (telling (then [])) (slices_on whole next) (later t.page) (later next) comes_then begins_fewer one in
-                  under (left (then [])) (later t.page) (telling t) (comes t) comes_not le
+                  under (left_in_turn (then [])) (later t.page) (telling t) (comes t) comes_not le
 
         -- it is one before that
         page_nearer : (next ≡ to → ⊥) → Nearer
@@ -412,8 +422,8 @@ module _ (whole : List DrawopValue) (to : PageId) (source : ℕ) where
           by false is = page_nearer (λ same. true≢false (sym (same_page-here next to same) ∙ is))
 
       -- a report tells the mark, or brings it nearer
-      pub comes_nearer : EndsAtMark held t → Nearer
-      comes_nearer ends = by rest_of refl where
+      pub turn_nearer : EndsAtMark held t → Nearer
+      turn_nearer ends = by rest_of refl where
         by : (marks : List MarkValue) → rest_of ≡ marks → Nearer
         by [] e = begins_nearer e
         by (m ∷ marks) e = goes_nearer ends m marks e
@@ -428,8 +438,8 @@ module _ (whole : List DrawopValue) (to : PageId) (source : ℕ) where
     one_slice n = omega arith
 
     -- one comes at least
-    pub one_left : 1 ≤ left t
-    one_left = by (comes t) refl where
+    pub one_in_turn : 1 ≤ left_in_turn t
+    one_in_turn = by (comes t) refl where
       under : (n more : ℕ) → 1 ≤ more → 1 ≤ n + more
       under n more le = omega (arith, le)
 
@@ -468,8 +478,8 @@ module _ (whole : List DrawopValue) (to : PageId) (source : ℕ) where
       by [] e = let le = all_slices in let least = one_slice (length (report_of whole to)) in none (length (report_of whole page)) (slices_of whole) (ap (λ (ms : List MarkValue). length ms) e) (omega (arith, le, least))
       by (m ∷ marks) e = slices_within page (its_page whole page m.source (has_mark whole page m (subst (λ (ms : List MarkValue). Contains ms m) (sym e) (Contains-here m marks))))
 
-    pub few_left_at_first : left t ≤ 2 * slices_of whole
-    few_left_at_first =
+    pub few_in_turn : left_in_turn t ≤ 2 * slices_of whole
+    few_in_turn =
         let few = few_slices t.page in
         let all = all_where (slices_on whole) (is_between t.page to) (pages_of whole) in
         let count = count_where (λ (m : MarkValue). is_untold t.last m.source) (report_of whole t.page) in
@@ -478,6 +488,66 @@ module _ (whole : List DrawopValue) (to : PageId) (source : ℕ) where
           fits : (b : Bool) (n long l more all : ℕ) → n ≤ long → max 1 ((long + 63) / 64) ≤ all → l ≤ more → more ≤ all → cond b ((n + 63) / 64) 0 + l ≤ 2 * all
           fits true n long l more all le few one other = omega (arith, le, few, one, other)
           fits false n long l more all le few one other = omega (arith, le, few, one, other)
+
+  -- ---- every second report tells what changed last
+
+  -- two reports for each in turn that may come before, one less if the next is in turn
+  abbrev pub left : Told → ℕ
+  left t = 2 * left_in_turn t + cond t.in_turn 1 0 - 1
+
+  -- the next report tells the mark
+  abbrev pub TellsMark : List DrawopValue → Told → Type 0
+  TellsMark held t = (page_reported held t ≡ to) × Contains (marks_reported held t) (top_mark held to source)
+
+  two_nearer : (a b : ℕ) (turned : Bool) → a + 1 ≤ b → 2 * a + 1 - 1 + 1 ≤ 2 * b + cond turned 1 0 - 1
+  two_nearer a b true le = omega (arith, le)
+  two_nearer a b false le = omega (arith, le)
+
+  one_nearer : (a : ℕ) (turned : Bool) → turned ≡ true → 1 ≤ a → 2 * a + 0 - 1 + 1 ≤ 2 * a + cond turned 1 0 - 1
+  one_nearer a true is some = omega (arith, some)
+  one_nearer a false is some = absurd (true≢false (sym is))
+
+  module _ (held : List DrawopValue) (grows : GrowsTo held whole) (has : HasMark held to source) (t : Told) where
+    abbrev told_next : Option NameValue → Told
+    told_next name = where_newest name (after_telling held t) (λ name. told_newest t)
+
+    was_turn : (turned : Bool) (name : NameValue) → cond turned (newest held) None ≡ Some name → turned ≡ true
+    was_turn true name e = refl
+    was_turn false name e = absurd (none-some name e)
+
+    abbrev NearerNow : Type 0
+    NearerNow = TellsMark held t ⊎ (left (after_reporting held t) + 1 ≤ left t)
+
+    in_turn_now : newest_now held t ≡ None → TellsInTurn held t → TellsMark held t
+    in_turn_now e tells = (
+      ap (λ (name : Option NameValue). where_newest name (page_in_turn held t) (λ name. name.page)) e ∙ tells.0,
+      subst (λ (ms : List MarkValue). Contains ms (top_mark held to source))
+          (sym (ap (λ (name : Option NameValue). where_newest name (marks_in_turn held t) (λ name. slice_with name.source (report_of held name.page))) e)) tells.1,
+    )
+
+    pub comes_nearer : EndsAtMark held t → NearerNow
+    comes_nearer ends = by (newest_now held t) refl where
+      by : (name : Option NameValue) → newest_now held t ≡ name → NearerNow
+      by None e = ⊎_elim
+          (λ (tells : TellsInTurn held t). inl (in_turn_now e tells))
+          (λ (less : left_in_turn (after_telling held t) + 1 ≤ left_in_turn t).
+          inr (subst (λ (u : Told). left u + 1 ≤ left t) (sym (ap told_next e)) (two_nearer (left_in_turn (after_telling held t)) (left_in_turn t) t.in_turn less)))
+          (turn_nearer held grows has t ends)
+      by (Some name) e =
+          inr (subst (λ (u : Told). left u + 1 ≤ left t) (sym (ap told_next e))
+          (one_nearer (left_in_turn t) t.in_turn (was_turn t.in_turn name e) (one_in_turn t (mark_stays held whole to source grows has))))
+
+  module _ (t : Told) (has : HasMark whole to source) where
+    pub one_left : 1 ≤ left t
+    one_left = some (left_in_turn t) (cond t.in_turn 1 0) (one_in_turn t has) where
+      some : (a b : ℕ) → 1 ≤ a → 1 ≤ 2 * a + b - 1
+      some a b le = omega (arith, le)
+
+    pub few_left_at_first : left t ≤ 4 * slices_of whole
+    few_left_at_first = few (left_in_turn t) (slices_of whole) t.in_turn (few_in_turn t has) where
+      few : (a b : ℕ) (turned : Bool) → a ≤ 2 * b → 2 * a + cond turned 1 0 - 1 ≤ 4 * b
+      few a b true le = omega (arith, le)
+      few a b false le = omega (arith, le)
 
 -- ---- reports one after the other, of boards that grow
 
@@ -521,6 +591,6 @@ module _ (boards : ℕ → List DrawopValue) (grow : AreGrowing boards) (t : Tol
 pub each_mark_is_told_of_growing : EachMarkIsToldOfGrowing
 each_mark_is_told_of_growing boards t page source last grow ends has le =
     let most = few_left_at_first (boards last) page source t (mark_stays (boards 0) (boards last) page source (grows_up_to boards grow t page source ends has 0 last (omega arith)) has) in
-    let told = told_by boards grow t page source ends has (2 * slices_of (boards last)) 0 last (omega (arith, le)) most in
+    let told = told_by boards grow t page source ends has (4 * slices_of (boards last)) 0 last (omega (arith, le)) most in
     let lt = told.1 in
     (told.0, omega (arith, lt), told.2.0, told.2.1)

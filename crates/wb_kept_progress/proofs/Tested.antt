@@ -307,7 +307,7 @@ module _ (hosts : ℕ → Opening) (terms : Terms) where
     abbrev fits : List TimedLine → ℕ → Bool
     fits part i =
         let k = there hosts part i in
-        nat_le (slices_of k.host.is.held + slices_on k.host.is.held k.policy.told_page) sizes.slices
+        nat_le (slices_of k.host.is.held + slices_on k.host.is.held k.policy.told.page) sizes.slices
         && nat_le (length (holes_of k.host.is.held)) sizes.holes
         && each (λ (hole : Hole). nat_le (hole.gap.last + 1 - hole.gap.first) sizes.numbers) (holes_of k.host.is.held)
         && nat_lt (k.policy.turns.round + 2 * sizes.numbers) (2 ^ 32)
@@ -328,7 +328,7 @@ module _ (hosts : ℕ → Opening) (terms : Terms) where
     } where
       at : (newer older : List TimedLine) (i : ℕ) → trace ≡ newer ++ older → Contains terms.live i → terms.quiet < called_at older
           → let k = there hosts older i in
-          (nat_le (slices_of k.host.is.held + slices_on k.host.is.held k.policy.told_page) sizes.slices ≡ true)
+          (nat_le (slices_of k.host.is.held + slices_on k.host.is.held k.policy.told.page) sizes.slices ≡ true)
           × (nat_le (length (holes_of k.host.is.held)) sizes.holes ≡ true)
           × (each (λ (hole : Hole). nat_le (hole.gap.last + 1 - hole.gap.first) sizes.numbers) (holes_of k.host.is.held) ≡ true)
           × (nat_lt (k.policy.turns.round + 2 * sizes.numbers) (2 ^ 32) ≡ true)

@@ -22,8 +22,7 @@ use Rattle.wb_keeper.proofs.TickSends.{sent_from}
 use Rattle.wb_member.specs.Opened.{Opened, becomes, has_room_for, present, sent_by}
 use Rattle.wb_member.specs.declared.calls.Call.TheVariants as calls
 use Rattle.wb_member.proofs.PolicyCalls.{SendsNothing, none_sent}
-use Rattle.wb_policy.specs.Choices.{last_heard}
-use Rattle.wb_keeping.specs.Kept.{Arrives, Line, Says, state_of, still, want, Calls}
+use Rattle.wb_keeping.specs.Kept.{Arrives, Line, Says, state_of, still, want, Calls, report_echoes}
 use Rattle.wb_keeping.specs.Laws.{KeptLine, doing_of, fault_of}
 use Rattle.wb_keeping.specs.Performing.{Keeping, after_doing, after_line, after_lines, said_where, sees, sent_by_doing, sent_by_line, sent_by_lines, view_of}
 use Rattle.wb_policy.specs.Policy.{Policy, after_wanting}
@@ -201,7 +200,7 @@ steps_tell = record {
     answers = λ k is. by_held k _ _ (states_tell (view_of k.host) (take 64 (pages_of k.host.is.held)) k.host);
     asks_pages = λ k is. by_one k (Says (AskPages k.host.is.number)) _ (λ v c. subst (TellsHeld k.host.is.number k.host.is.held) (one_of (AskPages k.host.is.number) v c) tt);
     reports = λ page until told k is.
-        let report = Session k.host.is.number (present k.host) page (slice_after told (report_of k.host.is.held page)) (last_heard (view_of k.host).echoes) in
+        let report = Session k.host.is.number (present k.host) page (slice_after told (report_of k.host.is.held page)) (report_echoes (view_of k.host) k.policy) in
         by_one k (Says report) _ (λ v c. subst (TellsHeld k.host.is.number k.host.is.held) (one_of report v c) (refl, slice_held k.host.is.held page told));
   };
   ticks = λ now k later. by_one k (Calls (calls.Tick now)) k.policy (tick_tells now k.host);

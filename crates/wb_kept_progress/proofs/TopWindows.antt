@@ -79,7 +79,7 @@ module _ (told : LastNumbersAreTold) (hosts : ℕ → Opening) (terms : Terms) (
   timely = performed_is_timely hosts terms trace session
 
   abbrev telling : ℕ
-  telling = 2 * slices * (pause + terms.late)
+  telling = 4 * slices * (pause + terms.late)
 
   abbrev pub at_window : ℕ → ℕ
   at_window k = from + k * span

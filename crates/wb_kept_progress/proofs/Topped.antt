@@ -13,6 +13,7 @@ use Rattle.wb_gaps.proofs.Reports.{greatest_held}
 use Rattle.wb_progress.specs.Turns.{Terms, settled_by}
 use Rattle.wb_progress.proofs.Giving.{held_as}
 use Rattle.wb_keeper.specs.Keeper.{holds}
+use Rattle.wb_policy.proofs.HeldTops.{below_top}
 use Rattle.wb_kept_progress.specs.Rounds.{OneLacksAtMost}
 use Rattle.wb_kept_progress.specs.Sessions.{Opening}
 use Rattle.wb_kept_progress.specs.Telling.{HaveSlices, LastNumbersAreTold}
@@ -20,7 +21,7 @@ use Rattle.wb_kept_progress.specs.Timed.{TimedLine, called_at}
 use Rattle.wb_kept_progress.specs.Topped.{AreNumbered, AskAtMost, SessionsBecomeWholeAnyway, SessionsBecomeWholeSoon, TopsAreHeldAnyway, TopsAreHeldSoon, asks_since, gained_by, gaining_span, topped_by, window_span, windows_from}
 use Rattle.wb_kept_progress.specs.Whole.{HolesAreHeld, IsHeldBySome, IsTimelySession, ReportWithin, WaitAtMost, request_span, there, turn_span}
 use Rattle.wb_kept_progress.proofs.Becoming.{lacked_before}
-use Rattle.wb_kept_progress.proofs.Coming.{below_top, missing_below}
+use Rattle.wb_kept_progress.proofs.Coming.{missing_below}
 use Rattle.wb_kept_progress.proofs.InCrowds.{few_lacked}
 use Rattle.wb_kept_progress.proofs.NothingNew.{held_was_held}
 use Rattle.wb_kept_progress.proofs.OwedAndDue.{next_by_turn}

@@ -1,5 +1,5 @@
 -- A number below a top has its turn, and is asked for.
-use Rattle.std.proofs.Common.{◌≡◌, ℕ, zero, suc, ◌+◌, ◌*◌, ◌<◌, ◌≤◌, Bool, true, false, cond, List, [], ◌∷◌, ◌++◌, ◌∙◌, Some, None, ap, arith, append_assoc, eqb-true, inl, inr, length, map, refl, subst, sym, true≢false, ⊎_elim}
+use Rattle.std.proofs.Common.{◌≡◌, ℕ, zero, suc, ◌+◌, ◌*◌, ◌<◌, ◌≤◌, Bool, true, false, cond, List, [], ◌∷◌, ◌++◌, ◌∙◌, Option, Some, None, ap, arith, append_assoc, eqb-true, inl, inr, length, map, refl, subst, sym, true≢false, ⊎_elim}
 use Rattle.std.specs.Prelude.{◌⊎◌, ◌&&◌, Contains, max, nat_eq, nat_le, not}
 use Rattle.std.specs.List.{flat_map}
 use Rattle.std.proofs.lemmas.Bool.{leb-true, false_from_ne_true}
@@ -23,12 +23,14 @@ use Rattle.wb_keeper.proofs.KeptCalls.{holds_not}
 use Rattle.wb_member.specs.Judged.{is_full}
 use Rattle.wb_member.specs.Opened.{Opened, asks_for, opened_with, present}
 use Rattle.wb_member.specs.declared.calls.Call.TheVariants.{Tick}
-use Rattle.wb_policy.specs.Fairness.{Told, after_telling, after_tellings, after_turn, after_turns, left_to_tell, marks_in_turn, name_in_turn, page_in_turn, where_left}
+use Rattle.wb_policy.specs.Fairness.{after_reporting, after_reports, after_turn, after_turns, left_to_tell, marks_in_turn, marks_reported, name_in_turn, page_reported, where_left, where_newest}
+use Rattle.wb_policy.specs.declared.reports.Told.{Told}
 use Rattle.wb_keeping.specs.Fairness.{AnswersWhatIsHeld}
 use Rattle.wb_keeping.specs.Kept.{Calls, performs, ticks, ticks_at, timed}
 use Rattle.wb_keeping.specs.Laws.{Added, Came, KeptLine, Ticked, Tuned, doing_of}
 use Rattle.wb_keeping.specs.Performing.{Keeping, after_doing, sees, sent_by_doing}
-use Rattle.wb_policy.specs.Reports.{is_telling, page_after, slice_after}
+use Rattle.wb_policy.specs.Reports.{from_source, is_telling, is_untold, newest_now, page_after, slice_after, slice_with}
+use Rattle.wb_policy.specs.Choices.{last_source}
 use Rattle.wb_policy.specs.Turns.{windows_in}
 use Rattle.wb_policy.specs.declared.turns.Turns.{Turns}
 use Rattle.wb_keeping.specs.Refusing.{is_unknown}
@@ -89,7 +91,7 @@ module _ (k : Keeping) (now : ℕ) (late : k.policy.reports.due ≤ now) (turn :
       let may : MayBeWanted m n = record { answers_held = answers_on (performs (Calls (Tick now))) k answers_held; lacks = lacks; room = room } in
       ap (λ (x : Keeping). asks_for n x.host) there ∙ due_asks m turn paid n may in_turn
 
--- a report has few marks
+-- a report has few marks, in turn and else
 few_in_turn : (held : List DrawopValue) (t : Told) → length (marks_in_turn held t) ≤ 64
 few_in_turn held t = by (left_to_tell held t) (slices_are_short None (report_of held (page_after t.page (pages_of held)))) (short (is_telling t.until t.last)) where
   short : (b : Bool) → length (cond b (slice_after t.last (report_of held t.page)) []) ≤ 64
@@ -102,6 +104,14 @@ few_in_turn held t = by (left_to_tell held t) (slices_are_short None (report_of 
   by : (marks : List MarkValue) → length other ≤ 64 → length marks ≤ 64 → length (where_left marks other marks) ≤ 64
   by [] a b = a
   by (m ∷ marks) a b = b
+
+few_reported : (held : List DrawopValue) (t : Told) → length (marks_reported held t) ≤ 64
+few_reported held t = by (newest_now held t) where
+  by : (name : Option NameValue) → length (where_newest name (marks_in_turn held t) (λ name. slice_with name.source (report_of held name.page))) ≤ 64
+  by None = few_in_turn held t
+  by (Some name) =
+      let marks = report_of held name.page in
+      slices_are_short (cond (is_untold (last_source None (slice_after None marks)) name.source) (from_source name.source) None) marks
 
 -- ---- ticks, one after the other
 
@@ -195,12 +205,12 @@ module _ (hosts : ℕ → Opening) (older : List LineAt) (i : ℕ) where
       ap (λ (x : Keeping). x.policy.turns) (behind_next count) ∙ (turning count).turns
       ∙ ap (λ (h : List DrawopValue). after_turn h k.policy.turns) (ticks_hold count) ∙ ap (after_turn (host_at hosts older i).is.held) (ticks_turn count)
 
-  ticks_tell : (count : ℕ) → told_of (behind count).policy ≡ after_tellings (host_at hosts older i).is.held count (told_of (kept_at hosts older i).policy)
+  ticks_tell : (count : ℕ) → told_of (behind count).policy ≡ after_reports (host_at hosts older i).is.held count (told_of (kept_at hosts older i).policy)
   ticks_tell zero = refl
   ticks_tell (suc count) =
       let k = behind count in
       ap (λ (x : Keeping). told_of x.policy) (behind_next count) ∙ (reporting count).told
-      ∙ ap (λ (h : List DrawopValue). after_telling h (told_of k.policy)) (ticks_hold count) ∙ ap (after_telling (host_at hosts older i).is.held) (ticks_tell count)
+      ∙ ap (λ (h : List DrawopValue). after_reporting h (told_of k.policy)) (ticks_hold count) ∙ ap (after_reporting (host_at hosts older i).is.held) (ticks_tell count)
 
   length_is : (count : ℕ) → length (some_ticks count) ≡ count
   length_is zero = refl
@@ -250,15 +260,15 @@ module _ (hosts : ℕ → Opening) (older : List LineAt) (i : ℕ) where
 
   -- after `count` reports, the next one tells what has its turn
   pub comes_to_tell : (page : PageId) (mark : MarkValue) (count : ℕ) → AreTaken hosts older
-      → page_in_turn (host_at hosts older i).is.held (after_tellings (host_at hosts older i).is.held count (told_of (kept_at hosts older i).policy)) ≡ page
-      → Contains (marks_in_turn (host_at hosts older i).is.held (after_tellings (host_at hosts older i).is.held count (told_of (kept_at hosts older i).policy))) mark
+      → page_reported (host_at hosts older i).is.held (after_reports (host_at hosts older i).is.held count (told_of (kept_at hosts older i).policy)) ≡ page
+      → Contains (marks_reported (host_at hosts older i).is.held (after_reports (host_at hosts older i).is.held count (told_of (kept_at hosts older i).policy))) mark
       → ComesToTell hosts (some_ticks (suc count)) older i page mark
   comes_to_tell page mark count taken page_is among =
       let k = behind count in
       let held = (host_at hosts older i).is.held in
-      let t = after_tellings held count (told_of (kept_at hosts older i).policy) in
+      let t = after_reports held count (told_of (kept_at hosts older i).policy) in
       let said = reporting count in
-      let there : Contains (sent_since hosts (some_ticks (suc count)) older) (Session k.host.is.number said.moment (page_in_turn k.host.is.held (told_of k.policy)) (marks_in_turn k.host.is.held (told_of k.policy)) said.echoes) =
+      let there : Contains (sent_since hosts (some_ticks (suc count)) older) (Session k.host.is.number said.moment (page_reported k.host.is.held (told_of k.policy)) (marks_reported k.host.is.held (told_of k.policy)) said.echoes) =
       did_send hosts (some_ticks count) older i (Ticked (ready_at k)) k _ refl said.sends in
       record {
         ticks = are_ticks (suc count);
@@ -266,16 +276,16 @@ module _ (hosts : ℕ → Opening) (older : List LineAt) (i : ℕ) where
         soon = ticks_soon count;
         same = ticks_hold (suc count);
         moment = said.moment;
-        marks = marks_in_turn held t;
+        marks = marks_reported held t;
         echoes = said.echoes;
         sent = subst (λ (v : Datagram). Contains (sent_since hosts (some_ticks (suc count)) older) v)
-            (ap (λ (me : ℕ). Session me said.moment (page_in_turn k.host.is.held (told_of k.policy)) (marks_in_turn k.host.is.held (told_of k.policy)) said.echoes) (ticks_of count).number
-            ∙ ap (λ (h : List DrawopValue). Session (host_at hosts older i).is.number said.moment (page_in_turn h (told_of k.policy)) (marks_in_turn h (told_of k.policy)) said.echoes) (ticks_hold count)
-            ∙ ap (λ (u : Told). Session (host_at hosts older i).is.number said.moment (page_in_turn held u) (marks_in_turn held u) said.echoes) (ticks_tell count)
-            ∙ ap (λ (p : PageId). Session (host_at hosts older i).is.number said.moment p (marks_in_turn held t) said.echoes) page_is)
+            (ap (λ (me : ℕ). Session me said.moment (page_reported k.host.is.held (told_of k.policy)) (marks_reported k.host.is.held (told_of k.policy)) said.echoes) (ticks_of count).number
+            ∙ ap (λ (h : List DrawopValue). Session (host_at hosts older i).is.number said.moment (page_reported h (told_of k.policy)) (marks_reported h (told_of k.policy)) said.echoes) (ticks_hold count)
+            ∙ ap (λ (u : Told). Session (host_at hosts older i).is.number said.moment (page_reported held u) (marks_reported held u) said.echoes) (ticks_tell count)
+            ∙ ap (λ (p : PageId). Session (host_at hosts older i).is.number said.moment p (marks_reported held t) said.echoes) page_is)
             there;
         among = among;
-        few = few_in_turn held t;
+        few = few_reported held t;
       }
 
 -- ---- a number below a top

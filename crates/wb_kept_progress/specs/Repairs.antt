@@ -120,8 +120,8 @@ pub record HasCome (hosts : ℕ → Opening) (newer older : List LineAt) (i : �
   pub sent : AreSent hosts newer older
   pub held : Contains (host_at hosts (newer ++ older) i).is.held d
 
--- A mark of a board of S slices comes into a report: the host sends one that has it after at most S ticks, and as many more as
--- the page that it reported last has slices.
+-- A mark of a board of S slices comes into a report: the host sends one that has it after at most twice S ticks, and twice as many more as
+-- the page that it reported last in turn has slices.
 pub record ComesToTell (hosts : ℕ → Opening) (newer older : List LineAt) (j : ℕ) (page : PageId) (m : MarkValue) : Type 0 where
   pub ticks : AreTicks j newer
   pub taken : AreTaken hosts (newer ++ older)
@@ -136,7 +136,7 @@ pub record ComesToTell (hosts : ℕ → Opening) (newer older : List LineAt) (j 
 
 abbrev pub MarksComeToBeTold : Type 0
 MarksComeToBeTold = (hosts : ℕ → Opening) (older : List LineAt) (j : ℕ) (page : PageId) (m : MarkValue) → AreTaken hosts older → Contains (pages_of (host_at hosts older j).is.held) page → Contains (report_of (host_at hosts older j).is.held page) m
-    → (newer : List LineAt) × ComesToTell hosts newer older j page m × (length newer ≤ slices_of (host_at hosts older j).is.held + slices_on (host_at hosts older j).is.held (kept_at hosts older j).policy.told_page)
+    → (newer : List LineAt) × ComesToTell hosts newer older j page m × (length newer ≤ 2 * (slices_of (host_at hosts older j).is.held + slices_on (host_at hosts older j).is.held (kept_at hosts older j).policy.told.page))
 
 -- No loss is final. Whatever came in before, a drawop that one host lacks and another holds can come, if the one has two free cells and
 -- the other holds no number of its source on its page that is 2^31 or more.

@@ -6,7 +6,8 @@ use Rattle.wb_names.specs.declared.name.PageId.{PageId}
 use Rattle.wb_codec.specs.declared.datagram.Datagram.TheVariants.{Session}
 use Rattle.wb_gaps.specs.Answers.{top_mark}
 use Rattle.wb_progress.specs.Turns.{Terms}
-use Rattle.wb_policy.specs.Fairness.{Told, after_telling, marks_in_turn, page_in_turn, slices_of}
+use Rattle.wb_policy.specs.Fairness.{after_reporting, marks_reported, page_reported, slices_of}
+use Rattle.wb_policy.specs.declared.reports.Told.{Told}
 use Rattle.wb_policy.specs.Reports.{is_telling}
 use Rattle.wb_kept_progress.specs.Sessions.{Opening}
 use Rattle.wb_kept_progress.specs.Timed.{TimedLine, called_at}
@@ -21,7 +22,7 @@ AreGrowing boards = (count : ℕ) (d : DrawopValue) → Contains (boards count) 
 -- where tellings stand after `count` reports, each of its own board
 abbrev pub after_growing : (ℕ → List DrawopValue) → ℕ → Told → Told
 after_growing boards zero t = t
-after_growing boards (suc count) t = after_telling (boards count) (after_growing boards count t)
+after_growing boards (suc count) t = after_reporting (boards count) (after_growing boards count t)
 
 -- a page has a mark of a source: a drawop of both is held whose number is not 0
 pub record HasMark (held : List DrawopValue) (page : PageId) (source : ℕ) : Type 0 where
@@ -35,11 +36,11 @@ pub record HasMark (held : List DrawopValue) (page : PageId) (source : ℕ) : Ty
 abbrev pub EndsAtMark : List DrawopValue → Told → Type 0
 EndsAtMark held t = is_telling t.until t.last ≡ true → HasMark held t.page t.until
 
--- While boards grow, one of twice as many reports as the last of them has slices tells a mark of the first, as it is by then: the telling of a page ends at
+-- While boards grow, one of four times as many reports as the last of them has slices tells a mark of the first, as it is by then: the telling of a page ends at
 -- the source that was the last when it began, so no page waits for another for ever.
 abbrev pub EachMarkIsToldOfGrowing : Type 0
-EachMarkIsToldOfGrowing = (boards : ℕ → List DrawopValue) (t : Told) (page : PageId) (source last : ℕ) → AreGrowing boards → EndsAtMark (boards 0) t → HasMark (boards 0) page source → 2 * slices_of (boards last) ≤ last
-    → (count : ℕ) × (count < 2 * slices_of (boards last)) × (page_in_turn (boards count) (after_growing boards count t) ≡ page) × Contains (marks_in_turn (boards count) (after_growing boards count t)) (top_mark (boards count) page source)
+EachMarkIsToldOfGrowing = (boards : ℕ → List DrawopValue) (t : Told) (page : PageId) (source last : ℕ) → AreGrowing boards → EndsAtMark (boards 0) t → HasMark (boards 0) page source → 4 * slices_of (boards last) ≤ last
+    → (count : ℕ) × (count < 4 * slices_of (boards last)) × (page_reported (boards count) (after_growing boards count t) ≡ page) × Contains (marks_reported (boards count) (after_growing boards count t)) (top_mark (boards count) page source)
 
 -- ---- live hosts
 
@@ -62,14 +63,14 @@ pub record IsTold (hosts : ℕ → Opening) (window base : List TimedLine) (j by
   pub report : Contains (sends_then hosts (between ++ base) e) (Session (hosts j).number sent page marks echoes)
   pub among : Contains marks mark
 
--- So what a live host holds it tells within twice as many reports as its board has slices, or a greater number of that source, whatever comes meanwhile.
+-- So what a live host holds it tells within four times as many reports as its board has slices, or a greater number of that source, whatever comes meanwhile.
 abbrev pub HeldNumbersAreTold : Type 0
 HeldNumbersAreTold = (hosts : ℕ → Opening) (terms : Terms) (trace newest window base : List TimedLine) (slices since pause j : ℕ) (d : DrawopValue)
     → IsTimelySession hosts terms trace → ReportWithin hosts terms trace since pause → HaveSlices hosts terms trace slices
     → trace ≡ newest ++ (window ++ base) → Contains terms.live j → terms.quiet < called_at base → since ≤ called_at base
     → Contains (there hosts base j).host.is.held d → 1 ≤ d.name.seq
-    → called_at base + 2 * slices * (pause + terms.late) < called_at (window ++ base)
-    → (high : ℕ) × (d.name.seq ≤ high) × IsTold hosts window base j (called_at base + 2 * slices * (pause + terms.late)) d.name.page (record { source = d.name.source; high = high })
+    → called_at base + 4 * slices * (pause + terms.late) < called_at (window ++ base)
+    → (high : ℕ) × (d.name.seq ≤ high) × IsTold hosts window base j (called_at base + 4 * slices * (pause + terms.late)) d.name.page (record { source = d.name.source; high = high })
 
 -- And it tells that number, if it stays the last of its source.
 abbrev pub LastNumbersAreTold : Type 0
@@ -78,5 +79,5 @@ LastNumbersAreTold = (hosts : ℕ → Opening) (terms : Terms) (trace newest win
     → trace ≡ newest ++ (window ++ base) → Contains terms.live j → terms.quiet < called_at base → since ≤ called_at base
     → Contains (there hosts base j).host.is.held d → 1 ≤ d.name.seq
     → ((newer older : List TimedLine) (x : DrawopValue) → window ++ base ≡ newer ++ older → Contains (there hosts older j).host.is.held x → x.name.page ≡ d.name.page → x.name.source ≡ d.name.source → x.name.seq ≤ d.name.seq)
-    → called_at base + 2 * slices * (pause + terms.late) < called_at (window ++ base)
-    → IsTold hosts window base j (called_at base + 2 * slices * (pause + terms.late)) d.name.page (record { source = d.name.source; high = d.name.seq })
+    → called_at base + 4 * slices * (pause + terms.late) < called_at (window ++ base)
+    → IsTold hosts window base j (called_at base + 4 * slices * (pause + terms.late)) d.name.page (record { source = d.name.source; high = d.name.seq })

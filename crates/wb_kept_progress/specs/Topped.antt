@@ -37,7 +37,7 @@ AskAtMost hosts terms trace since asks = (i : ℕ) → Contains terms.live i →
 
 -- Of a window: until the credit is that of the window, until a report of the last number of a source is handed in, and until the number comes.
 abbrev pub window_span : Terms → (slices pause : ℕ) → ℕ
-window_span terms slices pause = PLACES * COST + terms.drift + turn_span terms + 2 * slices * (pause + terms.late) + terms.delivery + round_span terms
+window_span terms slices pause = PLACES * COST + terms.drift + turn_span terms + 4 * slices * (pause + terms.late) + terms.delivery + round_span terms
 
 -- from then on windows count
 abbrev pub windows_from : Terms → (since wait : ℕ) → ℕ

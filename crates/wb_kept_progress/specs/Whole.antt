@@ -102,7 +102,7 @@ IsTimelySession hosts terms trace = IsTimelySessionBut ((MOST_DELAY ≤ terms.fa
 abbrev pub AlwaysShort : Type 0
 AlwaysShort = (hosts : ℕ → Opening) (terms : Terms) (trace : List TimedLine) → IsTimelySessionBut (GoByShort (λ j. start_of (hosts j)) terms (performed hosts trace)) hosts terms trace → IsTimelySession hosts terms trace
 
--- The most that the board of a live host has from `quiet` on: slices of marks, counted with those of the page that it reported last, holes,
+-- The most that the board of a live host has from `quiet` on: slices of marks, counted with those of the page that it reported last in turn, holes,
 -- and numbers in a hole. The most names that it gives up one after the other. And from `since` on, in microseconds, the most from a call to its
 -- next report, and until its turns come to a missing number that is held.
 pub record Sizes : Type 0 where
@@ -117,7 +117,7 @@ pub record Sizes : Type 0 where
 -- Rounds stay below 2^32. No number that is held is 0, or 2^31 or more.
 
 pub record AreWithin (hosts : ℕ → Opening) (terms : Terms) (trace : List TimedLine) (sizes : Sizes) : Type 0 where
-  pub slices : (newer older : List TimedLine) (i : ℕ) → trace ≡ newer ++ older → Contains terms.live i → terms.quiet < called_at older → let k = there hosts older i in slices_of k.host.is.held + slices_on k.host.is.held k.policy.told_page ≤ sizes.slices
+  pub slices : (newer older : List TimedLine) (i : ℕ) → trace ≡ newer ++ older → Contains terms.live i → terms.quiet < called_at older → let k = there hosts older i in slices_of k.host.is.held + slices_on k.host.is.held k.policy.told.page ≤ sizes.slices
   pub holes : (newer older : List TimedLine) (i : ℕ) → trace ≡ newer ++ older → Contains terms.live i → terms.quiet < called_at older → length (holes_of (there hosts older i).host.is.held) ≤ sizes.holes
   pub numbers : (newer older : List TimedLine) (i : ℕ) (hole : Hole) → trace ≡ newer ++ older → Contains terms.live i → terms.quiet < called_at older → Contains (holes_of (there hosts older i).host.is.held) hole → hole.gap.last + 1 - hole.gap.first ≤ sizes.numbers
   pub rounds : (newer older : List TimedLine) (i : ℕ) → trace ≡ newer ++ older → Contains terms.live i → terms.quiet < called_at older → (there hosts older i).policy.turns.round + 2 * sizes.numbers < ROUND_LIMIT
@@ -243,7 +243,7 @@ request_span terms = terms.asking * terms.far + terms.late
 
 -- until a report tells it the greatest number of a source, or a missing number has its turn
 abbrev pub wanting : Terms → Sizes → ℕ
-wanting terms sizes = sizes.slices * report_span terms sizes + sizes.turning + terms.delivery
+wanting terms sizes = 2 * sizes.slices * report_span terms sizes + sizes.turning + terms.delivery
 
 -- credit that is used up was used for what is held within this time
 abbrev pub credit_span : Terms → ℕ

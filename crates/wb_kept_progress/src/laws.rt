@@ -160,7 +160,7 @@ pub fn reports_follow_one_another()
     ensures by_rates { ReportsGoByRates }
 {}
 
-/// Reports while boards grow. Twice as many reports as a board has slices by then tell each mark
+/// Reports while boards grow. Four times as many reports as a board has slices by then tell each mark
 /// that it had at first, whatever has come meanwhile: the telling of a page ends at the source that
 /// was its last when it began. So what a live host holds it tells in time, or a greater number of
 /// its source; and that number, if it stays the last.

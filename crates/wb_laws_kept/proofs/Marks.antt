@@ -30,8 +30,7 @@ use Rattle.wb_member.specs.Opened.{Opened, becomes, has_room_for, opened_with, p
 use Rattle.wb_member.specs.declared.calls.Call.TheVariants as calls
 use Rattle.wb_policy.specs.Delays.{bounded}
 use Rattle.wb_recovery.specs.declared.limits.TheConstants.{UNKNOWN_DELAY}
-use Rattle.wb_policy.specs.Choices.{last_heard}
-use Rattle.wb_keeping.specs.Kept.{state_of, still, want}
+use Rattle.wb_keeping.specs.Kept.{state_of, still, want, report_echoes}
 use Rattle.wb_keeping.specs.Laws.{doing_of, expand}
 use Rattle.wb_keeping.specs.Performing.{Keeping, sees, view_of}
 use Rattle.wb_policy.specs.Policy.{after_beat, after_came, after_state, after_taking_up, after_wanting, after_echo}
@@ -253,8 +252,8 @@ due_tell = record {
       record { same = refl; tells = one.tells };
   reports = λ page until told k due.
       let marks = slice_after told (report_of k.host.is.held page) in
-      let one = one_tells k (Says (Session k.host.is.number (present k.host) page marks (last_heard (echoes k.host)))) (λ fits v c. subst (TellsHeld k.host.is.held) (one_of (Session k.host.is.number (present k.host) page marks (last_heard (echoes k.host))) v c)
-      (session_tells k.host.is.held k.host.is.number (present k.host) page marks (last_heard (echoes k.host)) (λ m d. slice_holds k.host.is.held page told m (few_held k.host fits) d))) in
+      let one = one_tells k (Says (Session k.host.is.number (present k.host) page marks (report_echoes (view_of k.host) k.policy))) (λ fits v c. subst (TellsHeld k.host.is.held) (one_of (Session k.host.is.number (present k.host) page marks (report_echoes (view_of k.host) k.policy)) v c)
+      (session_tells k.host.is.held k.host.is.number (present k.host) page marks (report_echoes (view_of k.host) k.policy) (λ m d. slice_holds k.host.is.held page told m (few_held k.host fits) d))) in
       record { same = refl; tells = one.tells };
 }
 

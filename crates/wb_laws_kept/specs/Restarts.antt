@@ -31,7 +31,7 @@ drawops_in given = filter_map drawop_in given
 
 -- The record has all that the member at the place drew, and its drawops fit on the board. What
 -- others drew may be missing. live/board.py holds to it (`draw`, `start`; tests/live/test_keeping.py:
--- test_draw, test_unsaid, check_old), and web/member/board.js (tests/browser/keeping.test.mjs: testDraw,
+-- test_draw, test_unwritten, check_old), and web/member/board.js (tests/browser/keeping.test.mjs: testDraw,
 -- testNoRoom, testEnds).
 pub record IsWholeRecord (numbers : ℕ → ℕ) (older : List CallAt) (i : ℕ) (o : Opening)
     (given : List Datagram) : Type 0 where

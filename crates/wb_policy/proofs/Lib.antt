@@ -4,10 +4,14 @@ pub mod Parts
 pub mod FilledHoles
 pub mod Latest
 pub mod Lasts
+pub mod Echoing
 pub mod Cycle
 pub mod HolesRise
 pub mod NearNumbers
 pub mod FairTurns
 pub mod ToldMarks
+pub mod Slices
+pub mod HeldTops
+pub mod Reporting
 pub mod Rising
 pub mod Gaps

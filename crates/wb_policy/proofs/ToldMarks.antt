@@ -24,12 +24,18 @@ use Rattle.wb_gaps.specs.Answers.{pages_of, report_of, sources_of, top_mark}
 use Rattle.wb_gaps.proofs.PageAnswers.{pages_of_history}
 use Rattle.wb_gaps.proofs.Sorting.{sorted_rises}
 use Rattle.wb_gaps.proofs.Starts.{page_itself}
-use Rattle.wb_policy.specs.Fairness.{EachMarkIsTold, Told, after_tellings, left_to_tell, marks_in_turn, page_in_turn, slices_of, slices_on, until_in_turn, where_left}
+use Rattle.wb_policy.specs.Fairness.{Told, after_telling, left_to_tell, marks_in_turn, page_in_turn, slices_of, slices_on, until_in_turn, where_left}
 use Rattle.wb_policy.specs.Choices.{last_source, until_in}
 use Rattle.wb_policy.specs.Reports.{first_of_pages, is_after, is_telling, is_untold, page_after, slice_after}
 use Rattle.wb_policy.specs.Turns.{nowhere}
 use Rattle.wb_policy.proofs.Cycle as cycle
 use Rattle.wb_policy.proofs.Cycle.{found_at}
+
+-- ---- one report in turn after the other
+
+abbrev pub after_tellings : List DrawopValue → ℕ → Told → Told
+after_tellings held zero t = t
+after_tellings held (suc count) t = after_telling held (after_tellings held count t)
 
 -- ---- marks that ascend
 
@@ -575,7 +581,9 @@ module _ (held : List DrawopValue) (t : Told) where
         let le = soon.few in
         record { count = told.count; few = omega (arith, few, le); page_is = told.page_is; among = told.among }
 
-pub each_mark_is_told : EachMarkIsTold
-each_mark_is_told held t page m (j, lt, e) there =
+-- of that many reports in turn one tells a mark
+pub has_its_turn : (held : List DrawopValue) (t : Told) (page : PageId) (m : MarkValue) → Contains (pages_of held) page → Contains (report_of held page) m
+    → (count : ℕ) × (count < slices_of held + slices_on held t.page) × (page_in_turn held (after_tellings held count t) ≡ page) × Contains (marks_in_turn held (after_tellings held count t)) m
+has_its_turn held t page m (j, lt, e) there =
     let told = told_at_last held t page j m lt (subst (λ (p : PageId). Contains (report_of held p) m) (sym e) there) in
     (told.count, told.few, told.page_is ∙ e, told.among)

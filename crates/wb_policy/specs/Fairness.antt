@@ -1,17 +1,18 @@
 -- Whose turn it is, and what reports tell, one after the other, if what is held stays as it is.
-use Rattle.std.specs.Prelude.{◌≡◌, ◌⊎◌, ℕ, zero, suc, ◌+◌, ◌-◌, ◌*◌, ◌/◌, ◌<◌, ◌≤◌, true, List, [], ◌∷◌, Option, Some, None, Contains, filter, length, max}
+use Rattle.std.specs.Prelude.{◌≡◌, ◌⊎◌, ℕ, zero, suc, ◌+◌, ◌-◌, ◌*◌, ◌/◌, ◌<◌, ◌≤◌, true, List, [], ◌∷◌, ◌++◌, Option, Some, None, Contains, filter, length, max}
 use Rattle.std.specs.List.{sum_by}
 use Rattle.std.specs.Option.{option_map, option_or}
 use Rattle.wb_names.specs.History.{name_of}
 use Rattle.wb_names.specs.Values.{DrawopValue, MarkValue, NameValue}
 use Rattle.wb_names.specs.declared.name.PageId.{PageId}
-use Rattle.wb_gaps.specs.Answers.{pages_of, report_of}
+use Rattle.wb_gaps.specs.Answers.{pages_of, report_of, top_mark}
 use Rattle.wb_gaps.specs.Holes.{hole_after, holes_of}
 use Rattle.wb_gaps.specs.declared.holes.Hole.{Hole}
-use Rattle.wb_policy.specs.Choices.{last_source, until_in}
-use Rattle.wb_policy.specs.Reports.{is_untold, page_after, rest_after, slice_after}
+use Rattle.wb_policy.specs.Choices.{until_in}
+use Rattle.wb_policy.specs.Reports.{is_untold, newest_now, page_after, rest_after, slice_after, slice_with, told_in_turn, told_newest}
 use Rattle.wb_policy.specs.Turns.{after_hole, name_in, next_round, nowhere, windows_in}
 use Rattle.wb_policy.specs.declared.limits.TheConstants.{MOST_MARKS, ROUND_LIMIT, WINDOW}
+pub use Rattle.wb_policy.specs.declared.reports.Told.{Told}
 use Rattle.wb_policy.specs.declared.turns.Turns.{Turns}
 
 -- ---- holes
@@ -69,12 +70,6 @@ EachNumberHasItsTurnSoon = (held : List DrawopValue) (t : Turns) (hole : Hole) (
 
 -- ---- marks
 
--- the page of the last report, the last source in it, and the last that the page had when its telling began
-pub record Told : Type 0 where
-  pub page : PageId
-  pub last : Option ℕ
-  pub until : ℕ
-
 -- what is left of the telling
 abbrev pub left_to_tell : List DrawopValue → Told → List MarkValue
 left_to_tell held t = rest_after t.until t.last (report_of held t.page)
@@ -84,7 +79,7 @@ abbrev pub where_left : {X : Type 0} → List MarkValue → X → X → X
 where_left [] none some = none
 where_left (m ∷ marks) none some = some
 
--- the page of the next report, and which of its marks: what is left of the telling, or the next page
+-- the page of the next report in turn, and which of its marks: what is left of the telling, or the next page
 abbrev pub page_in_turn : List DrawopValue → Told → PageId
 page_in_turn held t = where_left (left_to_tell held t) (page_after t.page (pages_of held)) t.page
 
@@ -95,11 +90,25 @@ abbrev pub until_in_turn : List DrawopValue → Told → ℕ
 until_in_turn held t = where_left (left_to_tell held t) (until_in (report_of held (page_after t.page (pages_of held)))) t.until
 
 abbrev pub after_telling : List DrawopValue → Told → Told
-after_telling held t = record { page = page_in_turn held t; last = last_source None (marks_in_turn held t); until = until_in_turn held t }
+after_telling held t = told_in_turn (page_in_turn held t) (until_in_turn held t) (marks_in_turn held t)
 
-abbrev pub after_tellings : List DrawopValue → ℕ → Told → Told
-after_tellings held zero t = t
-after_tellings held (suc count) t = after_telling held (after_tellings held count t)
+-- the next report: what changed last, if it is time for that, or what is in turn
+abbrev pub where_newest : {X : Type 0} → Option NameValue → X → (NameValue → X) → X
+where_newest None turn last = turn
+where_newest (Some name) turn last = last name
+
+abbrev pub page_reported : List DrawopValue → Told → PageId
+page_reported held t = where_newest (newest_now held t) (page_in_turn held t) (λ name. name.page)
+
+abbrev pub marks_reported : List DrawopValue → Told → List MarkValue
+marks_reported held t = where_newest (newest_now held t) (marks_in_turn held t) (λ name. slice_with name.source (report_of held name.page))
+
+abbrev pub after_reporting : List DrawopValue → Told → Told
+after_reporting held t = where_newest (newest_now held t) (after_telling held t) (λ name. told_newest t)
+
+abbrev pub after_reports : List DrawopValue → ℕ → Told → Told
+after_reports held zero t = t
+after_reports held (suc count) t = after_reporting held (after_reports held count t)
 
 -- how many slices of at most 64 marks a page has, at least one
 abbrev pub slices_on : List DrawopValue → PageId → ℕ
@@ -109,12 +118,21 @@ slices_on held page = max 1 ((length (report_of held page) + (MOST_MARKS - 1)) /
 abbrev pub slices_of : List DrawopValue → ℕ
 slices_of held = sum_by (slices_on held) (pages_of held)
 
--- Each mark of a board of S slices is among each S reports and as many more as the page of the last one has slices.
+-- Each mark of a board of S slices is among twice S reports, and twice as many more as the page of the last one in turn has slices.
 abbrev pub EachMarkIsTold : Type 0
 EachMarkIsTold = (held : List DrawopValue) (t : Told) (page : PageId) (m : MarkValue) → Contains (pages_of held) page → Contains (report_of held page) m
-    → (count : ℕ) × (count < slices_of held + slices_on held t.page) × (page_in_turn held (after_tellings held count t) ≡ page) × Contains (marks_in_turn held (after_tellings held count t)) m
+    → (count : ℕ) × (count < 2 * (slices_of held + slices_on held t.page)) × (page_reported held (after_reports held count t) ≡ page) × Contains (marks_reported held (after_reports held count t)) m
 
--- While the telling of a page goes on, whatever the board has become meanwhile: a report tells of that page sources above those before, and 64
+-- a report tells the greatest number of the source of a drawop, on its page
+abbrev pub TellsSourceOf : DrawopValue → List DrawopValue → Told → Type 0
+TellsSourceOf d held t = (page_reported held t ≡ d.name.page) × Contains (marks_reported held t) (top_mark held d.name.page d.name.source)
+
+-- Of two reports in a row one tells that of the newest drawop that is held.
+abbrev pub NewestIsTold : Type 0
+NewestIsTold = (older : List DrawopValue) (d : DrawopValue) (t : Told) → 1 ≤ d.name.seq
+    → let held = older ++ d ∷ [] in TellsSourceOf d held t ⊎ TellsSourceOf d held (after_reporting held t)
+
+-- While the telling of a page goes on, whatever the board has become meanwhile: a report in turn tells of that page sources above those before, and 64
 -- of them or all that there are. So a telling tells no source twice, and each of its reports but the last tells 64.
 pub record GoesOnTelling (held : List DrawopValue) (t : Told) : Type 0 where
   pub page : page_in_turn held t ≡ t.page

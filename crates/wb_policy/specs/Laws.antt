@@ -1,13 +1,13 @@
 -- Laws of a policy that know no host.
-use Rattle.std.specs.Prelude.{◌≡◌, ◌≢◌, ◌<◌, All, Contains, ℕ, ◌+◌, ◌-◌, ◌*◌, ◌≤◌, List, [], ◌∷◌, IsTrue, Option, length}
+use Rattle.std.specs.Prelude.{◌≡◌, ◌≢◌, ◌⊎◌, ◌<◌, All, Bool, true, Contains, ℕ, ◌+◌, ◌-◌, ◌*◌, ◌≤◌, List, [], ◌∷◌, IsTrue, Option, length}
 use Rattle.wb_names.specs.Ascending.{AreEchoes}
 use Rattle.wb_names.specs.Values.{MarkValue}
 use Rattle.wb_names.specs.declared.echo.Echo.{Echo}
-use Rattle.wb_policy.specs.Choices.{last_heard, numbers_near}
+use Rattle.wb_policy.specs.Choices.{echoed, firsts_of, have_answered, is_here, next_turn, numbers_near}
 use Rattle.wb_policy.specs.Credit.{has_credit, repaid, spent}
 use Rattle.wb_policy.specs.Pace.{hurried, next_pace}
 use Rattle.wb_policy.specs.Reports.{report_bytes, slice_after}
-use Rattle.wb_policy.specs.declared.limits.TheConstants.{COST, LONGEST_GAP, MOST_MARKS, MOST_REPORT_BYTES, PAYS, PLACES, SHORTEST_GAP}
+use Rattle.wb_policy.specs.declared.limits.TheConstants.{COST, LONGEST_GAP, MOST_FIRSTS, MOST_MARKS, MOST_REPORT_BYTES, PAYS, PLACES, SHORTEST_GAP}
 use Rattle.wb_policy.specs.declared.pace.Pace.{Pace}
 
 -- ---- what is asked for
@@ -86,4 +86,19 @@ SlicesAreShort = (told : Option ℕ) (marks : List MarkValue) → length (slice_
 
 -- A report has at most 64 marks and 32 echoes, and so at most 1,184 bytes.
 abbrev pub ReportsAreSmall : Type 0
-ReportsAreSmall = (told : Option ℕ) (marks : List MarkValue) (echoes : List Echo) → AreEchoes echoes → report_bytes (slice_after told marks) (last_heard echoes) ≤ MOST_REPORT_BYTES
+ReportsAreSmall = (told : Option ℕ) (marks : List MarkValue) (known : ℕ → Bool) (from : ℕ) (echoes : List Echo) → AreEchoes echoes
+    → report_bytes (slice_after told marks) (echoed known from echoes) ≤ MOST_REPORT_BYTES
+
+-- Whoever has answered and was heard within 192 seconds is echoed in each report, if at most 24 such members are there.
+abbrev pub AnswersAreEchoed : Type 0
+AnswersAreEchoed = (known : ℕ → Bool) (from : ℕ) (es : List Echo) (e : Echo) → AreEchoes es → length (have_answered known es) ≤ MOST_FIRSTS → Contains (have_answered known es) e
+    → Contains (echoed known from es) e
+
+-- One source comes before another on the way round the numbers from where turns stand.
+abbrev pub IsOnTheWay : ℕ → ℕ → ℕ → Type 0
+IsOnTheWay from to at = ((from < at) × (at < to)) ⊎ ((to ≤ from) × ((from < at) ⊎ (at < to)))
+
+-- Whoever was heard within 192 seconds waits for ever for no place: he is echoed, or turns go on towards his number.
+abbrev pub TurnsReachEach : Type 0
+TurnsReachEach = (known : ℕ → Bool) (from : ℕ) (es : List Echo) (e : Echo) → AreEchoes es → Contains es e → is_here e ≡ true
+    → Contains (echoed known from es) e ⊎ IsOnTheWay from e.source (next_turn (firsts_of known from es) from (echoed known from es))

@@ -1,6 +1,5 @@
 -- The state of a policy, and what it sees of its host.
-use Rattle.std.specs.Prelude.{ℕ, ◌+◌, Option, Some, None, min}
-use Rattle.wb_names.specs.declared.name.PageId.{PageId}
+use Rattle.std.specs.Prelude.{ℕ, ◌+◌, Option, Some, None, false, min}
 use Rattle.wb_gaps.specs.declared.holes.Hole.{Hole}
 use Rattle.wb_policy.specs.Credit.{repaid, spent}
 use Rattle.wb_policy.specs.Delays.{bounded, usual_with}
@@ -15,10 +14,11 @@ use Rattle.wb_policy.specs.declared.limits.TheConstants.{ANSWER, FIRST_DELAY, FI
 use Rattle.wb_policy.specs.declared.pace.Pace.{Pace}
 use Rattle.wb_policy.specs.declared.questions.Questions.{Questions}
 use Rattle.wb_policy.specs.declared.reports.Reports.{Reports}
+use Rattle.wb_policy.specs.declared.reports.Told.{Told}
 use Rattle.wb_policy.specs.declared.turns.Turns.{Turns}
 
--- A fixed number of integers. Nothing is added before `ready`; `told_page` and `told` are the page and the last source of the last
--- report, `until` is the last source that the page had when its telling began, `owed` is the moment up to which names are paid for, and `usual` the usual delay.
+-- A fixed number of integers. Nothing is added before `ready`; `told` is what reports told so far, `echoed` the last that had its turn
+-- among the echoes, `owed` is the moment up to which names are paid for, and `usual` the usual delay.
 pub record Policy : Type 0 where
   pub ready : ℕ
   pub reports : Reports
@@ -26,9 +26,8 @@ pub record Policy : Type 0 where
   pub turns : Turns
   pub leaps : Leaps
   pub pace : Pace
-  pub told_page : PageId
-  pub told : Option ℕ
-  pub until : ℕ
+  pub told : Told
+  pub echoed : ℕ
   pub owed : ℕ
   pub usual : ℕ
   pub words : Lcg
@@ -51,9 +50,8 @@ begun now rate listen seed =
       turns = record { page = nowhere; source = 0; number = 0; round = 0; step = 0 };
       leaps = record { page = nowhere; source = 0; number = 0; round = 0 };
       pace = begun_pace now;
-      told_page = nowhere;
-      told = None;
-      until = 0;
+      told = record { page = nowhere; last = None; until = 0; in_turn = false };
+      echoed = 0;
       owed = 0;
       usual = FIRST_DELAY;
       words = after_word (after_word words);
@@ -107,11 +105,15 @@ after_answer now states p = record p { questions = answered_at now (answer_pause
 abbrev pub after_state : ℕ → Policy → Policy
 after_state now p = record p { questions = heard_at now p.questions }
 
--- It reported a page up to a source, and its telling goes on until another: `bytes` bytes, among `members` members.
-abbrev pub after_report : ℕ → PageId → Option ℕ → ℕ → ℕ → ℕ → Policy → Policy
-after_report now page last until members bytes p =
+-- It reported `bytes` bytes, among `members` members: what reports told then.
+abbrev pub after_report : ℕ → Told → ℕ → ℕ → Policy → Policy
+after_report now told members bytes p =
     let mean = mean_time p.reports.rate members bytes in
-    record (after_draw p) { told_page = page; told = last; until = until; reports = record p.reports { due = next_report now mean (draws mean p) } }
+    record (after_draw p) { told = told; reports = record p.reports { due = next_report now mean (draws mean p) } }
+
+-- of those who were echoed this one was the last that had its turn
+abbrev pub after_echoing : ℕ → Policy → Policy
+after_echoing echoed p = record p { echoed = echoed }
 
 -- the least moment at which it has something to do
 abbrev pub sooner : ℕ → Option ℕ → ℕ

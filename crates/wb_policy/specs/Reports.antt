@@ -1,13 +1,15 @@
 -- Reports: when one is due, and which marks it has.
-use Rattle.std.specs.Prelude.{ℕ, ◌+◌, ◌*◌, ◌/◌, Bool, true, false, List, [], ◌∷◌, Option, Some, None, filter, length, max, min, nat_lt, take, unwrap_or, if◌then◌else◌}
+use Rattle.std.specs.Prelude.{ℕ, zero, suc, ◌+◌, ◌*◌, ◌/◌, Bool, true, false, List, [], ◌∷◌, Option, Some, None, filter, length, max, min, nat_lt, take, unwrap_or, if◌then◌else◌}
 use Rattle.std.specs.List.{find}
 use Rattle.std.specs.Option.{option_or}
 use Rattle.std.specs.Ordering.{is_lt}
 use Rattle.wb_names.specs.Orders.{page_cmp}
-use Rattle.wb_names.specs.Values.{MarkValue}
+use Rattle.wb_names.specs.Values.{DrawopValue, MarkValue, NameValue}
 use Rattle.wb_names.specs.declared.echo.Echo.{Echo}
 use Rattle.wb_names.specs.declared.name.PageId.{PageId}
+use Rattle.wb_policy.specs.Choices.{last_source, newest}
 use Rattle.wb_policy.specs.Turns.{nowhere}
+use Rattle.wb_policy.specs.declared.reports.Told.{Told}
 use Rattle.wb_policy.specs.declared.limits.TheConstants.{ECHO_BYTES, HEAD_BYTES, HEARD, LONGEST_MEAN, MARK_BYTES, MOST_MARKS, SECOND, SHORTEST_MEAN}
 
 -- The mean time between two reports, so that those of all members together take `rate` bytes a second: from 2 to 64 seconds.
@@ -45,6 +47,31 @@ is_telling until (Some told) = nat_lt told until
 -- the next marks of the page of the last report, and none if its telling has ended
 abbrev pub rest_after : ℕ → Option ℕ → List MarkValue → List MarkValue
 rest_after until told marks = if is_telling until told then slice_after told marks else []
+
+-- ---- what changed last
+
+-- what reports told, after one in turn: of these marks of a page, whose telling ends at a source
+abbrev pub told_in_turn : PageId → ℕ → List MarkValue → Told
+told_in_turn page until marks = record { page = page; last = last_source None marks; until = until; in_turn = true }
+
+-- and after one of what changed last: what is in turn waits
+abbrev pub told_newest : Told → Told
+told_newest t = record t { in_turn = false }
+
+-- after a report in turn, the name of the newest of what is held
+abbrev pub newest_now : List DrawopValue → Told → Option NameValue
+newest_now held t = if t.in_turn then newest held else None
+
+-- a slice that begins behind this one has this source first
+abbrev pub from_source : ℕ → Option ℕ
+from_source zero = None
+from_source (suc source) = Some source
+
+-- The slice of a page with a source: its first 64 marks, or those from that source on if it is not among these.
+abbrev pub slice_with : ℕ → List MarkValue → List MarkValue
+slice_with source marks = slice_after (if is_untold (last_source None (slice_after None marks)) source then from_source source else None) marks
+
+-- ---- pages
 
 -- the first of some pages
 abbrev pub first_of_pages : List PageId → Option PageId

@@ -3,15 +3,15 @@ ghost use Rattle.std.specs.Prelude.{◌≡◌, ◌≤◌, ◌<◌, ◌++◌, IfO
 ghost use Rattle.wb_names.specs.History.{name_of};
 ghost use Rattle.std.specs.List.{count_by};
 ghost use Rattle.std.specs.Ordering.{is_lt};
-ghost use Rattle.wb_policy.specs.Choices.{echoed_delay, heard_later, if_below, last_heard, last_source, near_names, own_echo, own_marks, told_names};
+ghost use Rattle.wb_policy.specs.Choices.{echoed_delay, if_below, is_among, is_here, is_sooner, last_source, newest, near_names, next_turn, own_echo, own_marks, rank_of, soonest, told_names};
 ghost use Rattle.wb_names.specs.declared.name.TheConstants.{FIRST_FORGED};
-ghost use Rattle.wb_policy.specs.declared.limits.TheConstants.{MOST_ECHOES};
-ghost use Rattle.std.specs.Prelude.{None};
+ghost use Rattle.wb_policy.specs.declared.limits.TheConstants.{MOST_ECHOES, MOST_FIRSTS};
+ghost use Rattle.std.specs.Prelude.{None, []};
 
-use crate::limits::{MOST_ECHOES, REACH};
+use crate::limits::{HEARD, MOST_ECHOES, MOST_FIRSTS, REACH};
 use std::alloc::{AllocError, Global};
 use std::cmp::Ordering;
-use wb_names::{Echo, Echoes, FIRST_FORGED, Mark, Marks, Name, PageId};
+use wb_names::{Drawop, Echo, Echoes, FIRST_FORGED, Mark, Marks, Name, PageId};
 use wb_recovery::distance;
 
 /// The marks of this member that are believed: while it listens, those below 2^31.
@@ -63,58 +63,133 @@ pub fn echoed_delay(now: u64, echoes: &[Echo]) -> Option<u64>
     }
 }
 
-/// The 32 senders that were heard last, ascending.
-pub fn last_heard(alloc: Global, echoes: &Echoes) -> Result<Echoes, AllocError>
-    ensures { IfOk result (λ last. last ≡ last_heard echoes.now) }
+/// Whether a sender was heard within 192 seconds.
+pub fn is_here(echo: Echo) -> bool
+    ensures { result ≡ is_here echo }
 {
-    let last = latest(alloc, echoes.as_slice())?;
-    Ok(Echoes::from_ascending(last))
+    echo.held < HEARD
 }
 
-/// The 32 senders that were heard last, as a list.
-fn latest(alloc: Global, all: &[Echo]) -> Result<Vec<Echo>, AllocError>
-    ensures { IfOk result (λ last. last.items ≡ last_heard all.now) }
+/// Whether a sender is among some.
+fn is_among(firsts: &[Echo], echo: Echo) -> bool
+    ensures { result ≡ is_among firsts.now echo }
 {
-    if all.len() < MOST_ECHOES {
+    firsts.iter().any(|first| first.source == echo.source)
+}
+
+/// Of those that have answered and are here the ones that are echoed first: at most 24.
+pub fn firsts(alloc: Global, from: u32, answered: &[Echo]) -> Result<Vec<Echo>, AllocError>
+    ensures { IfOk result (λ firsts. firsts.items ≡ soonest [] from MOST_FIRSTS answered.now) }
+{
+    soonest(alloc, &[], from, MOST_FIRSTS, answered)
+}
+
+/// The senders that a report echoes: at most 32.
+pub fn echoed(alloc: Global, firsts: &[Echo], from: u32, all: &Echoes) -> Result<Echoes, AllocError>
+    ensures { IfOk result (λ echoed. echoed ≡ soonest firsts.now from MOST_ECHOES all.now) }
+{
+    let some = soonest(alloc, firsts, from, MOST_ECHOES, all.as_slice())?;
+    Ok(Echoes::from_ascending(some))
+}
+
+/// The senders whose turn it is: at most `most`, ascending. Some come first, then those that are
+/// here, and then those that are gone; of each kind those above a number, and then round.
+fn soonest(
+    alloc: Global,
+    firsts: &[Echo],
+    from: u32,
+    most: usize,
+    all: &[Echo],
+) -> Result<Vec<Echo>, AllocError>
+    requires { 1 ≤ most }
+    ensures { IfOk result (λ some. some.items ≡ soonest firsts.now from most all.now) }
+{
+    if all.len() < most {
         return all.to_vec(alloc);
     }
-    let first = first_of_latest(alloc, all)?;
-    not_before(alloc, first, all)
+    let last = last_of_soonest(alloc, firsts, from, most, all)?;
+    not_after(alloc, firsts, from, last, all)
 }
 
-/// The senders that were not heard before one.
-fn not_before(alloc: Global, one: Echo, all: &[Echo]) -> Result<Vec<Echo>, AllocError>
+/// The senders whose turn is not after that of one.
+fn not_after(
+    alloc: Global,
+    firsts: &[Echo],
+    from: u32,
+    one: Echo,
+    all: &[Echo],
+) -> Result<Vec<Echo>, AllocError>
     ensures { IfOk result (λ others.
-        others.items ≡ filter (λ e. not (heard_later one e)) all.now) }
+        others.items ≡ filter (λ e. not (is_sooner firsts.now from one e)) all.now) }
 {
-    let others = all.iter().filter(|other| !is_later(one, **other));
+    let others = all
+        .iter()
+        .filter(|other| !is_sooner(firsts, from, one, **other));
     others.copied().collect(alloc)
 }
 
-/// Of the 32 senders that were heard last, the one that was heard first.
-fn first_of_latest(alloc: Global, all: &[Echo]) -> Result<Echo, AllocError>
-    requires { MOST_ECHOES ≤ length all.now }
-    ensures { IfOk result (λ first. (count_by (λ e. heard_later e first) all.now < MOST_ECHOES)
-        × (MOST_ECHOES ≤ count_by (λ e. not (heard_later first e)) all.now)) }
+/// Of the senders whose turn it is, the one whose turn comes last.
+fn last_of_soonest(
+    alloc: Global,
+    firsts: &[Echo],
+    from: u32,
+    most: usize,
+    all: &[Echo],
+) -> Result<Echo, AllocError>
+    requires some { 1 ≤ most }
+    requires many { most ≤ length all.now }
+    ensures { IfOk result (λ last. (count_by (λ e. is_sooner firsts.now from e last) all.now < most)
+        × (most ≤ count_by (λ e. not (is_sooner firsts.now from last e)) all.now)) }
 {
     let mut ranked = all.to_vec(alloc)?;
-    let (_, first, _) = ranked.select_nth_unstable_by(MOST_ECHOES - 1, |a, b| by_hearing(*a, *b));
-    Ok(*first)
+    let (_, last, _) = ranked.select_nth_unstable_by(
+        most - 1,
+        |a, b| by_turn(firsts, from, *a, *b),
+    );
+    Ok(*last)
 }
 
-/// Whether one was heard after another, or at the same moment and has the lesser number.
-fn is_later(one: Echo, other: Echo) -> bool
-    ensures { result ≡ heard_later one other }
+/// Whether one has its turn before another.
+fn is_sooner(firsts: &[Echo], from: u32, one: Echo, other: Echo) -> bool
+    ensures { result ≡ is_sooner firsts.now from one other }
 {
-    by_hearing(one, other) == Ordering::Less
+    by_turn(firsts, from, one, other) == Ordering::Less
 }
 
-/// The order in which senders are echoed: who was heard later comes first, and of two that were
-/// heard at one moment the one with the lesser number.
-fn by_hearing(one: Echo, other: Echo) -> Ordering
-    ensures { is_lt result ≡ heard_later one other }
+/// The order in which senders have their turn.
+fn by_turn(firsts: &[Echo], from: u32, one: Echo, other: Echo) -> Ordering
+    ensures { is_lt result ≡ is_sooner firsts.now from one other }
 {
-    (one.held, one.source).cmp(&(other.held, other.source))
+    let (first, second) = (rank_of(firsts, from, one), rank_of(firsts, from, other));
+    (first, one.source).cmp(&(second, other.source))
+}
+
+/// The rank of a sender: those above the number come before the others of their kind.
+fn rank_of(firsts: &[Echo], from: u32, echo: Echo) -> u32
+    ensures { result ≡ rank_of firsts.now from echo }
+{
+    let round = if from < echo.source { 0 } else { 1 };
+    if is_among(firsts, echo) {
+        round
+    } else if is_here(echo) {
+        2 + round
+    } else {
+        4 + round
+    }
+}
+
+/// The last of some senders that are here and not among the first, or else this number: there turns
+/// go on.
+pub fn next_turn(firsts: &[Echo], from: u32, echoed: &[Echo]) -> u32
+    ensures { result ≡ next_turn firsts.now from echoed.now }
+{
+    let mut next = from;
+    for echo in echoed {
+        if is_here(*echo) && !is_among(firsts, *echo) {
+            next = echo.source;
+        }
+    }
+    next
 }
 
 /// The last source of some marks.
@@ -126,6 +201,16 @@ pub fn last_source(marks: &[Mark]) -> Option<u32>
         last = Some(mark.source());
     }
     last
+}
+
+/// The name of the newest of what is held, the newest last.
+pub fn newest(drawops: &[Drawop]) -> Option<Name>
+    ensures { result ≡ newest drawops.now }
+{
+    match drawops.last() {
+        Some(drawop) => Some(drawop.name()),
+        None => None,
+    }
 }
 
 /// The names of the marks of a page, except for numbers of this member from 2^31 on, which only a

@@ -2,9 +2,9 @@
 //! do nothing: each stands here for its clause.
 
 ghost use Rattle.std.specs.Prelude.{◌≡◌, ◌^◌};
-ghost use Rattle.wb_policy.specs.Fairness.{EachHoleHasItsTurn, EachMarkIsTold, EachNumberHasItsTurn, EachNumberHasItsTurnSoon, TellingsRise};
-ghost use Rattle.wb_policy.specs.Laws.{FewAreAsked, IdleTurnsAreRare, NearIsAmong, NumbersAreNear, ReportsAreSmall, SlicesAreShort, SuccessHurries, TurnsArePaced};
-ghost use Rattle.wb_policy.specs.declared.limits.TheConstants.{ANSWER, COST, ECHO_BYTES, FIRST_DELAY, FIRST_QUESTION, FIRST_REPORT, FIRST_WAIT, HEAD_BYTES, HEARD, LEAST_DELAY, LISTEN_LIMIT, LONGEST_GAP, LONGEST_MEAN, LONGEST_PAUSE, MARK_BYTES, MAX_RATE, MEMBERS, MOST_BYTES, MOST_DELAY, MOST_ECHOES, MOST_MARKS, MOST_PAGES, MOST_REPORT_BYTES, MOST_WAIT, OLD_LEVEL, PAYS, PLACES, PLACES_OF_LAST, QUIET, REACH, ROUND_LIMIT, SECOND, SHORTEST_GAP, SHORTEST_MEAN, SHORTEST_PAUSE, STATE_BYTES, STEADINESS, STREAM, STRIDE, TIMERS_BEFORE_TURNS, WINDOW};
+ghost use Rattle.wb_policy.specs.Fairness.{EachHoleHasItsTurn, EachMarkIsTold, EachNumberHasItsTurn, EachNumberHasItsTurnSoon, NewestIsTold, TellingsRise};
+ghost use Rattle.wb_policy.specs.Laws.{AnswersAreEchoed, FewAreAsked, IdleTurnsAreRare, NearIsAmong, NumbersAreNear, ReportsAreSmall, SlicesAreShort, SuccessHurries, TurnsArePaced, TurnsReachEach};
+ghost use Rattle.wb_policy.specs.declared.limits.TheConstants.{ANSWER, COST, ECHO_BYTES, FIRST_DELAY, FIRST_QUESTION, FIRST_REPORT, FIRST_WAIT, HEAD_BYTES, HEARD, LEAST_DELAY, LISTEN_LIMIT, LONGEST_GAP, LONGEST_MEAN, LONGEST_PAUSE, MARK_BYTES, MAX_RATE, MEMBERS, MOST_BYTES, MOST_DELAY, MOST_ECHOES, MOST_FIRSTS, MOST_MARKS, MOST_PAGES, MOST_REPORT_BYTES, MOST_WAIT, OLD_LEVEL, PAYS, PLACES, PLACES_OF_LAST, QUIET, REACH, ROUND_LIMIT, SECOND, SHORTEST_GAP, SHORTEST_MEAN, SHORTEST_PAUSE, STATE_BYTES, STEADINESS, STREAM, STRIDE, TIMERS_BEFORE_TURNS, WINDOW};
 
 /// From one moment to another at most 64 names are asked for, one more for each quarter of a
 /// second, and two more for each that was asked for and came.
@@ -26,6 +26,14 @@ pub fn slices_are_short()
     ensures bytes { ReportsAreSmall }
 {}
 
+/// Whoever has answered and was heard within 192 seconds is echoed in each report, if at most 24 such
+/// members are there. Everybody else who was heard has his turn: a report that does not echo him
+/// brings turns nearer to his number, whoever is heard beside him.
+pub fn echoes_are_fair()
+    ensures answered { AnswersAreEchoed }
+    ensures reached { TurnsReachEach }
+{}
+
 /// While what is held stays as it is, each of R holes has its turn among each 64 R turns. A number
 /// of a hole that has n of them is wanted after at most 64 R turns for each 64 of these n or part
 /// of them, however many another hole has. If none has more than n, it is wanted among each 2 n R
@@ -45,13 +53,20 @@ pub fn turns_keep_a_pace()
     ensures rare { IdleTurnsAreRare }
 {}
 
-/// While what is held stays as it is, each mark of a board of S slices is reported within S
-/// reports, and as many more as the page of the last report has slices. Whatever comes in while the
-/// telling of a page goes on, each report has sources of it above those before, 64 or all that
-/// there are: so sources that come keep a telling from its end for as many reports as they fill.
+/// While what is held stays as it is, each mark of a board of S slices is reported within twice S
+/// reports, and twice as many more as the page of the last report in turn has slices. Whatever comes
+/// in while the telling of a page goes on, each report in turn has sources of it above those before,
+/// 64 or all that there are: so sources that come keep a telling from its end for as many reports in
+/// turn as they fill.
 pub fn each_mark_is_told()
     ensures marks { EachMarkIsTold }
     ensures rise { TellingsRise }
+{}
+
+/// Of two reports in a row one tells the page that changed last, however many pages there are: it
+/// has the greatest number of the source of the newest drawop that is held.
+pub fn what_changed_last_is_told()
+    ensures newest { NewestIsTold }
 {}
 
 /// The limits: of rounds; of delays; of reports, their parts and bytes; of questions for pages;
@@ -59,7 +74,7 @@ pub fn each_mark_is_told()
 pub fn limits()
     ensures rounds { ROUND_LIMIT ≡ 2 ^ 32 }
     ensures delays { (FIRST_DELAY ≡ 20000) × (MOST_DELAY ≡ 1000000) }
-    ensures reports { (FIRST_REPORT ≡ 1000000) × (MOST_MARKS ≡ 64) × (MOST_ECHOES ≡ 32) }
+    ensures reports { (FIRST_REPORT ≡ 1000000) × (MOST_MARKS ≡ 64) × (MOST_ECHOES ≡ 32) × (MOST_FIRSTS ≡ 24) }
     ensures bytes { (MOST_BYTES ≡ 2000000) × (MOST_REPORT_BYTES ≡ 1184) × (MAX_RATE ≡ 1000000) }
     ensures questions { (FIRST_QUESTION ≡ 200000) × (FIRST_WAIT ≡ 1000000) }
     ensures answers { (MOST_WAIT ≡ 64000000) × (MOST_PAGES ≡ 64) × (STATE_BYTES ≡ 534) }

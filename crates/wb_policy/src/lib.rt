@@ -29,7 +29,8 @@ mod turns;
 mod wanting;
 
 pub use choices::{
-    echoed_delay, last_heard, last_source, near_names, own_echo, own_marks, told_names,
+    echoed, echoed_delay, firsts, is_here, last_source, near_names, newest, next_turn, own_echo,
+    own_marks, told_names,
 };
 pub use credit::Credit;
 pub use delays::Delays;
@@ -37,6 +38,8 @@ pub use leaps::Leaps;
 pub use pace::Pace;
 pub use policy::{Policy, sooner};
 pub use questions::Questions;
-pub use reports::{Reports, is_telling, members, page_after, report_bytes};
+pub use reports::{
+    Reports, Told, from_source, is_telling, is_untold, members, page_after, report_bytes,
+};
 pub use turns::Turns;
 pub use wanting::{AskedName, Candidate, giving_way, oldest, young_count};

@@ -95,6 +95,9 @@ pub const MOST_MARKS: usize = 64;
 /// The most echoes of one report.
 pub const MOST_ECHOES: usize = 32;
 
+/// How many of these echo members that have answered, before the others have their turn.
+pub const MOST_FIRSTS: usize = 24;
+
 /// The most pages of an answer.
 pub const MOST_PAGES: usize = 64;
 

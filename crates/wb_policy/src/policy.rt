@@ -5,10 +5,9 @@ ghost use Rattle.std.specs.Prelude.{◌≡◌, ◌≤◌, ◌<◌, ◌+◌, if�
 ghost use Rattle.wb_names.specs.Moments.{IsMoment};
 ghost use Rattle.wb_policy.specs.declared.limits.TheConstants.{LISTEN_LIMIT, LONGEST_GAP, LONGEST_PAUSE, MEMBERS, MOST_BYTES, MOST_DELAY, SHORTEST_GAP, SHORTEST_PAUSE};
 ghost use Rattle.wb_policy.specs.Delays.{bounded};
-ghost use Rattle.wb_policy.specs.Policy.{after_answer, after_beat, after_came, after_drawing, after_leaping, after_question, after_report, after_state, after_taking_up, after_turn, after_wanting, begun, in_next_leaps, in_next_round, next_moment, sooner, after_echo};
+ghost use Rattle.wb_policy.specs.Policy.{after_answer, after_beat, after_came, after_drawing, after_echoing, after_leaping, after_question, after_report, after_state, after_taking_up, after_turn, after_wanting, begun, in_next_leaps, in_next_round, next_moment, sooner, after_echo};
 ghost use Rattle.wb_policy.specs.Leaps.{far_name};
 ghost use Rattle.wb_policy.specs.Questions.{is_due, is_to_answer};
-ghost use Rattle.wb_policy.specs.Reports.{is_telling};
 ghost use Rattle.wb_policy.specs.Turns.{name_in};
 ghost use Rattle.wb_policy.specs.Credit.{is_covered};
 ghost use Rattle.wb_policy.specs.Wanting.{is_wanted, passes_on};
@@ -19,12 +18,12 @@ use crate::leaps::Leaps;
 use crate::limits::{ANSWER, FIRST_QUESTION, FIRST_REPORT, STREAM, TIMERS_BEFORE_TURNS};
 use crate::pace::Pace;
 use crate::questions::{Questions, answer_pause};
-use crate::reports::{Reports, is_telling};
+use crate::reports::{Reports, Told};
 use crate::turns::Turns;
 use crate::wanting::Candidate;
 use std::marker::Model;
 use wb_gaps::Hole;
-use wb_names::{Name, PageId};
+use wb_names::Name;
 use wb_random::RandomWords;
 
 /// What a self-managing host remembers: a fixed number of integers, whatever comes in. Moments are
@@ -38,12 +37,9 @@ pub struct Policy {
     turns: Turns,
     leaps: Leaps,
     pace: Pace,
-    /// The page of the last report.
-    told_page: PageId,
-    /// The last source of the last report, if it had one.
-    told: Option<u32>,
-    /// The last source that its page had when its telling began.
-    until: u32,
+    told: Told,
+    /// The last source that had its turn among the echoes.
+    echoed: u32,
     credit: Credit,
     delays: Delays,
     words: RandomWords,
@@ -63,9 +59,8 @@ impl Model for Policy {
       turns = p.turns;
       leaps = p.leaps;
       pace = p.pace;
-      told_page = p.told_page;
       told = p.told;
-      until = p.until;
+      echoed = p.echoed;
       owed = p.credit.owed;
       usual = p.delays;
       words = p.words;
@@ -98,9 +93,8 @@ impl Policy {
             turns: Turns::START,
             leaps: Leaps::START,
             pace: Pace::new(now),
-            told_page: Turns::START.page,
-            told: None,
-            until: 0,
+            told: Told::START,
+            echoed: 0,
             credit: Credit::WHOLE,
             delays: Delays::new(),
             words,
@@ -297,51 +291,41 @@ impl Policy {
         self.reports.is_due(now)
     }
 
-    /// The page and the last source of the last report.
-    pub fn told(&self) -> (PageId, Option<u32>)
-        ensures { result ≡ (self.now.told_page, self.now.told) }
+    /// What reports told so far.
+    pub fn told(&self) -> Told
+        ensures { result ≡ self.now.told }
     {
-        (self.told_page, self.told)
+        self.told
     }
 
-    /// The last source that the page had when its telling began.
-    pub fn until(&self) -> u32
-        ensures { result ≡ self.now.until }
-    {
-        self.until
-    }
-
-    /// Whether the telling of the page of the last report goes on.
-    pub fn is_telling(&self) -> bool
-        ensures { result ≡ is_telling self.now.until self.now.told }
-    {
-        is_telling(self.until, self.told)
-    }
-
-    /// It reported a page up to `last`, and tells it up to `until`: `bytes` bytes, among `members`
-    /// members. So reports are at least a second apart, and at most 96.
-    pub fn reported(
-        &mut self,
-        now: u64,
-        page: PageId,
-        last: Option<u32>,
-        until: u32,
-        members: u64,
-        bytes: u64,
-    )
+    /// It reported `bytes` bytes, among `members` members: what reports told then. So they are
+    /// at least a second apart, and at most 96.
+    pub fn reported(&mut self, now: u64, told: Told, members: u64, bytes: u64)
         requires moment { IsMoment now }
         requires members { members ≤ MEMBERS }
         requires bytes { bytes ≤ MOST_BYTES }
-        ensures after { self.new ≡ after_report now page last until members bytes self.old }
+        ensures after { self.new ≡ after_report now told members bytes self.old }
         ensures rare { now + SHORTEST_PAUSE ≤ self.new.reports.due }
         ensures soon { self.new.reports.due ≤ now + LONGEST_PAUSE }
     {
         let mean = self.reports.mean_time(members, bytes);
         let drawn = self.words.up_to(mean as u32);
         self.reports.reported(now, mean, drawn);
-        self.told_page = page;
-        self.told = last;
-        self.until = until;
+        self.told = told;
+    }
+
+    /// The last source that had its turn among the echoes.
+    pub fn echoed(&self) -> u32
+        ensures { result ≡ self.now.echoed }
+    {
+        self.echoed
+    }
+
+    /// Turns of echoes go on after this source.
+    pub fn echoed_up_to(&mut self, echoed: u32)
+        ensures { self.new ≡ after_echoing echoed self.old }
+    {
+        self.echoed = echoed;
     }
 
     /// The usual delay: at most a second.

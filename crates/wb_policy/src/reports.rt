@@ -4,7 +4,7 @@ ghost use Rattle.std.specs.Prelude.{◌≡◌, ◌≤◌, ◌<◌, ◌^◌, ◌+
 ghost use Rattle.wb_names.specs.Moments.{IsMoment};
 ghost use Rattle.wb_names.specs.declared.name.PageId.{PageId};
 ghost use Rattle.wb_policy.specs.declared.limits.TheConstants.{HEARD, LONGEST_MEAN, LONGEST_PAUSE, MEMBERS, MOST_BYTES, SHORTEST_MEAN, SHORTEST_PAUSE};
-ghost use Rattle.wb_policy.specs.Reports.{first_of_pages, is_after, is_telling, mean_time, members_in, next_report, page_after, report_bytes};
+ghost use Rattle.wb_policy.specs.Reports.{first_of_pages, from_source, is_after, is_telling, is_untold, mean_time, members_in, next_report, page_after, report_bytes};
 
 use crate::limits::{
     ECHO_BYTES, HEAD_BYTES, HEARD, LONGEST_MEAN, MARK_BYTES, SECOND, SHORTEST_MEAN,
@@ -19,6 +19,33 @@ pub struct Reports {
     pub rate: u64,
     /// When the next one is due.
     pub due: u64,
+}
+
+/// What reports told so far. Every second report tells what is in turn: page by page, and of a page
+/// 64 marks at a time. The others tell the page that changed last.
+#[derive(Clone, Copy, Debug, PartialEq, Eq)]
+pub struct Told {
+    /// The page of the last report in turn.
+    pub page: PageId,
+    /// The last source of that report, if it had one.
+    pub last: Option<u32>,
+    /// The last source that the page had when its telling began.
+    pub until: u32,
+    /// Whether the last report told what was in turn.
+    pub in_turn: bool,
+}
+
+impl Told {
+    /// Before the first report.
+    pub const START: Told = Told {
+        page: PageId {
+            creator: 0,
+            number: 0,
+        },
+        last: None,
+        until: 0,
+        in_turn: false,
+    };
 }
 
 impl Reports {
@@ -94,6 +121,23 @@ pub fn is_telling(until: u32, told: Option<u32>) -> bool
         Some(told) => told < until,
         None => false,
     }
+}
+
+/// Whether a source is above the last of earlier slices, if there is one.
+pub fn is_untold(told: Option<u32>, source: u32) -> bool
+    ensures { result ≡ is_untold told source }
+{
+    match told {
+        Some(told) => told < source,
+        None => true,
+    }
+}
+
+/// After which source a slice begins that has this one first.
+pub fn from_source(source: u32) -> Option<u32>
+    ensures { result ≡ from_source source }
+{
+    source.checked_sub(1)
 }
 
 /// The next page in the cycle of the pages, or page 0/0 if there is none: the first of those after

@@ -97,7 +97,7 @@ pub fn begins_datagram(line: &[u8]) -> bool
     ensures { result ≡ begins_datagram line.now }
 {
     let (word, rest) = first_word(line);
-    next_word(2, rest).is_ok() && is_kind(word)
+    is_kind(word) && next_word(2, rest).is_ok()
 }
 
 /// The datagram of the kind that the first word tells.

@@ -1,6 +1,7 @@
 """Somebody on the wire who lacks the key does all that needs none, at once, to members who draw while a third of what comes to each is lost. He changes
 nothing: no drawing is later than without him, nothing of his is held, and he costs no more than hearing him. `python3 -m
-tests.live.attacks.test_outside` is a minute of it with each of 2, 3 and 8 members, and then of the same at an open board."""
+tests.live.attacks.test_outside` is a minute of it with each of 2, 3 and 8 members, and then of the same at an open board; with `--times` it judges
+times too."""
 from __future__ import annotations
 
 import argparse
@@ -225,7 +226,8 @@ def longest_frame(page: Any) -> Any:
 
 
 def check_outside(facts: Facts, count: int, seconds: float, speed: int) -> None:
-    """N members for some seconds without him, and then as long beside him, while another one joins them."""
+    """N members for some seconds without him, and then as long beside him, while another one joins them. What he cost, half of that time after him tells:
+    then all are there who were beside him."""
     with tempfile.TemporaryDirectory(prefix="wb-state-") as home, hearer() as (listener, port), contextlib.ExitStack() as ended:
         words = ["--ports", str(FIRST_PORT), "--lose", "0.3334", "--twice", "0.1", "--mix", "--speed", str(speed)]
         members = [Timed(words, home) for _ in range(count)]
@@ -244,8 +246,10 @@ def check_outside(facts: Facts, count: int, seconds: float, speed: int) -> None:
             facts("%d: who comes beside him is found" % count, all(comes(lambda: heard(member) >= set(numbers) - {member.me}) for member in members), True)
             facts("%d: and draws" % count, late.draw("1/1", "line 0 31 4 31 n")[0], 200)
             frames.append(longest_frame(page))
-        check_unchanged(facts, members, numbers, quiet, beside)
+        after = Phase(members[:count], seconds / 2, [listener])
+        check_unchanged(facts, members, numbers, [quiet, beside, after])
         tell_times(facts, members[:count], quiet, beside, frames)
+        tell_costs(facts, count, beside, after)
         print("%d members beside %s datagrams of somebody without the key, load %.1f" % (count, " ".join(sent), os.getloadavg()[0]))
 
 
@@ -253,14 +257,19 @@ def heard(member: Process) -> Any:
     return {it["member"] for it in member.states.get("members", {"members": []})["members"]}
 
 
-def check_unchanged(facts: Facts, members: List[Timed], numbers: List[int], quiet: Phase, beside: Phase) -> None:
+def pointing(member: Process) -> Any:
+    """Who points at something, or has it in view."""
+    return {it["member"] for it in member.states.get("presence", {"others": []})["others"]}
+
+
+def check_unchanged(facts: Facts, members: List[Timed], numbers: List[int], phases: List[Phase]) -> None:
     """Nothing of his is held or shown, and nobody minds him."""
-    total, count = len(quiet.began) + len(beside.began) + 1, len(members) - 1
-    facts("%d: nothing is refused" % count, quiet.faults + beside.faults, [])
-    facts("%d: all that was drawn is everywhere" % count, [phase.have_come(members) for phase in (quiet, beside)], [True, True])
+    total, count = sum(len(phase.began) for phase in phases) + 1, len(members) - 1
+    facts("%d: nothing is refused" % count, [fault for phase in phases for fault in phase.faults], [])
+    facts("%d: all that was drawn is everywhere" % count, [phase.have_come(members) for phase in phases], [True] * len(phases))
     facts("%d: and nothing else" % count, comes(lambda: [member.states["health"]["taken"] for member in members] == [total] * len(members)), True)
     facts("%d: on one page" % count, [[it["page"] for it in member.states["pages"]["pages"] if it["drawn"]] for member in members], [["1/1"]] * len(members))
-    facts("%d: nobody else is there, or points" % count, [(heard(member) <= set(numbers), member.states.get("presence", {}).get("others", [])) for member in members], [(True, [])] * len(members))
+    facts("%d: nobody else is there, or points" % count, [(heard(member) | pointing(member)) - set(numbers) for member in members], [set()] * len(members))
     facts("%d: all have their numbers" % count, [(member.states["hello"]["me"], member.states["hello"]["twin"], member.counts()["starts"]) for member in members], [(number, False, 1) for number in numbers])
     facts("%d: nobody is warned" % count, [member.states["health"]["warnings"] for member in members], [[]] * len(members))
     facts.holds("%d: what he sent was heard" % count, min(member.counts()["foreign"] for member in members[:count]) > 1_000, members[0].counts())
@@ -269,20 +278,25 @@ def check_unchanged(facts: Facts, members: List[Timed], numbers: List[int], quie
 def tell_times(facts: Facts, members: List[Timed], quiet: Phase, beside: Phase, frames: List[float]) -> None:
     """Times are judged where that was asked for."""
     before, after, count = quiet.times(members), beside.times(members), len(members)
-    costs = [last - first for first, last in zip(quiet.costs, beside.costs)]
     for name, phase, times, frame in (("without him", quiet, before, frames[0]), ("beside him", beside, after, frames[1])):
         parts = ", ".join("%.0f in 100 %.3f" % (100 * part, part_of(times, part)) for part in PARTS)
         print("%d members %s: %d drawings, answers in %.3f s at most; to the others %s, all %.3f s; a frame of a window %.0f ms at most" % (
             count, name, len(phase.began), max(phase.answers), parts, times[-1], frame))
-    print("he cost each of them %s of a processor, and a socket that hears as much %.3f" % (" ".join("%.3f" % cost for cost in costs[:-1]), costs[-1]))
     if not os.environ.get("WB_MEASURE"):
         print("skipped: whether drawings are as early as without him, which is judged where WB_MEASURE is set")
         return
     facts.holds("%d: an answer takes at most %g s" % (count, LATER), max(beside.answers) < LATER, max(beside.answers))
     for part in PARTS[:2]:
         facts.holds("%d: %.0f in 100 drawings are not later" % (count, 100 * part), part_of(after, part) < part_of(before, part) + LATER, (part_of(before, part), part_of(after, part)))
-    facts.holds("%d: he costs less than %g of a processor beside what hearing costs" % (count, COST), max(costs[:-1]) < costs[-1] + COST, costs)
     facts.holds("%d: no frame over %d ms" % (count, FRAME), frames[1] < FRAME, frames)
+
+
+def tell_costs(facts: Facts, count: int, beside: Phase, after: Phase) -> None:
+    """What he cost each of them of a processor; judged where times are."""
+    *costs, hearing = [first - last for first, last in zip(beside.costs, after.costs)]
+    print("he cost each of them %s of a processor, and a socket that hears as much %.3f" % (" ".join("%.3f" % cost for cost in costs), hearing))
+    if os.environ.get("WB_MEASURE"):
+        facts.holds("%d: he costs less than %g of a processor beside what hearing costs" % (count, COST), max(costs) < hearing + COST, costs)
 
 
 def test_outside(facts: Facts) -> None:
@@ -300,12 +314,16 @@ def main(words: Optional[List[str]] = None) -> int:
     made.add_argument("--seconds", type=float, default=LONG_SECONDS)
     made.add_argument("--members", type=int, nargs="+", default=ALL_MEMBERS)
     made.add_argument("--speed", type=int, default=1, help="how much faster than a person's time goes")
+    made.add_argument("--times", action="store_true", help="judge times, frames and costs too, on a machine that does nothing else")
+    made.add_argument("--closed", action="store_true", help="without the open board")
     options = made.parse_args(words)
     program()
+    os.environ.update({"WB_MEASURE": "1"} if options.times else {})
     facts = Facts()
     for count in options.members:
         check_outside(facts, count, options.seconds, options.speed)
-        check_attacked(facts, count, options.seconds, LONG_SPEED, Outside)
+        if not options.closed:
+            check_attacked(facts, count, options.seconds, LONG_SPEED, Outside)
     return facts.status()
 
 

@@ -7,7 +7,7 @@ use Rattle.wb_feed.specs.declared.sender.Feeding.{Feeding}
 use Rattle.wb_feed.specs.declared.workers.WorkFault.{WorkFault}
 use Rattle.wb_feed.specs.declared.workers.WorkFault.TheVariants.{Start}
 use Rattle.wb_feed.specs.Inside.Channel.{channel_view}
-use Rattle.wb_feed.specs.Inside.Sent.{HasArrived}
+use Rattle.wb_feed.specs.Inside.Arriving.{HasArrived}
 
 -- the same, but that the pass knows v
 pub record IsWith (f : Feeding) (v : ChannelView) (g : Feeding) : Type 0 where

@@ -45,9 +45,3 @@ abbrev pub TakesBack : PassValue → ℕ → GivenBack → Result Told WorkFault
 TakesBack p rows d others q (Ok all) = (d.failed ≡ false) × IsBack p d.desk q × (o : Told) × (others ≡ Ok o) × (all.replies.items ≡ d.told.replies.items ++ o.replies.items)
 TakesBack p rows d others q (Err Start) = (others ≡ Err Start) × IsBack p d.desk q
 TakesBack p rows d others q (Err (Memory lost)) = (IsBack p d.desk q × (lost ≡ lost_in others)) ⊎ ((q ≡ p) × (lost ≡ rows + lost_in others))
-
--- the desk of the one worker comes back as q; fed is what feeding it answered, and the last has the replies to the worker
-abbrev pub ComesBack : GivenBack → Result Told WorkFault → PassValue → Result Told WorkFault → Type 0
-ComesBack d fed q (Ok all) = (q ≡ d.desk) × (d.failed ≡ false) × (all ≡ d.told) × (o : Told) × (fed ≡ Ok o)
-ComesBack d fed q (Err Start) = (q ≡ d.desk) × (fed ≡ Err Start)
-ComesBack d fed q (Err (Memory lost)) = (q ≡ d.desk) × (lost ≡ lost_in fed)

@@ -47,6 +47,9 @@ impl Judge {
         if !known && self.strange.is_wide(&drawop.name()) {
             return Verdict::dropped(Why::Pages);
         }
+        if !known && self.told.leaves_holes(&drawop.name(), facts.top) {
+            return Verdict::dropped(Why::Holes);
+        }
         Verdict::TAKEN
     }
 

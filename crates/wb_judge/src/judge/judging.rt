@@ -2,7 +2,7 @@
 
 ghost use Rattle.std.specs.Prelude.{◌≡◌};
 ghost use Rattle.wb_names.specs.Moments.{IsMoment};
-ghost use Rattle.wb_judge.specs.Judging.{after_judging, after_own, after_question, after_report, after_request, after_said, own_verdict, question_verdict, report_verdict, request_verdict, said_verdict, verdict};
+ghost use Rattle.wb_judge.specs.Judging.{after_judging, after_of, after_own, after_question, after_report, after_request, after_said, after_telling, own_verdict, question_verdict, report_verdict, request_verdict, said_verdict, verdict, verdict_of};
 ghost use Rattle.wb_judge.specs.Verdicts.{dropped, warned};
 
 use super::Judge;
@@ -21,6 +21,31 @@ impl Judge {
         ensures after { self.new ≡ after_judging origin datagram.now facts.now self.old }
     {
         self.known.renew(origin, facts.at);
+        let verdict = self.judge_any(origin, datagram, facts);
+        self.hear_marks(origin, datagram, facts.at);
+        verdict
+    }
+
+    /// A member tells the marks of its report.
+    fn hear_marks(&mut self, origin: Origin, datagram: &Datagram, now: u64)
+        ensures { self.new ≡ after_telling origin datagram.now now self.old }
+    {
+        if !self.knows(origin, now) {
+            return;
+        }
+        match datagram {
+            Datagram::Session { page, marks, .. } => self.told.put_all(*page, marks.as_slice()),
+            Datagram::PageState { page, marks, .. } => self.told.put_all(*page, marks.as_slice()),
+            _ => {}
+        }
+    }
+
+    /// What becomes of a datagram, by its kind.
+    fn judge_any(&mut self, origin: Origin, datagram: &Datagram, facts: &Facts) -> Verdict
+        requires { IsMoment facts.now.at }
+        ensures verdict { result ≡ verdict_of origin datagram.now facts.now self.old }
+        ensures after { self.new ≡ after_of origin datagram.now facts.now self.old }
+    {
         match datagram {
             Datagram::Draw(drawop) => self.judge_drawop(origin, drawop, facts),
             Datagram::Session {

@@ -74,7 +74,7 @@ impl KeptMember {
     }
 
     /// Whether the delay to a source is known.
-    fn is_known(&self, source: u32) -> bool
+    pub(super) fn is_known(&self, source: u32) -> bool
         ensures { (k : Keeping) → IsKeptAt self.now k →
             result ≡ is_known (view_of k.host) source }
     {

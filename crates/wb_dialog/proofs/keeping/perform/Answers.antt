@@ -1,4 +1,3 @@
-use Rattle.std.proofs.Common.{[], sym, append-nil}
 use Rattle.wb_keeping.specs.Calls.{became_of, doing_of, fault_of, line_of}
 use Rattle.wb_dialog.specs.Hosting.{kept_batch}
 use Rattle.wb_dialog.proofs.KeptReplies.{refuses_line}
@@ -7,10 +6,4 @@ use Rattle.wb_dialog.proofs.keeping.perform.Goals as goal
 pub returns-in-Err : goal.returns-in-Err
 returns-in-Err c =
     let line = line_of c.args.call in
-    record {
-      text = (
-        [],
-        sym (append-nil c.args.output.now),
-        λ k at. rw c.refused_by_kept.ensures (refuses_line _ (Unit {0}) c.args.kept.now _ k (doing_of line) (kept_batch line (became_of line k.host)) (fault_of line k) c.in-Err.fault (c.in-Err.ensures.fault k at) (c.in-Err.ensures.refused k at) at),
-      );
-    }
+    λ k at. rw c.refused_by_kept.ensures (refuses_line _ c.args.kept.now _ k (doing_of line) (kept_batch line (became_of line k.host)) (fault_of line k) c.in-Err.fault (c.in-Err.ensures.fault k at) (c.in-Err.ensures.refused k at) at)

@@ -12,10 +12,4 @@ use Rattle.wb_dialog.proofs.keeping.tune.Goals as goal
 
 -- constants in their range are not refused
 pub returns : goal.returns
-returns c = record {
-  text = (
-    c.perform.ensures.text.0,
-    c.perform.ensures.text.1,
-    λ k at. subst (λ (fine : Bool). DoesReply (Some (Kept k)) (Some (values.Kept c.perform.new.kept)) c.perform.ensures.text.0 c.perform.result (kept_does (fault_unless fine (Host Range)) (performs (Calls (Tune c.args.constants))) [] k)) c.requires (c.perform.ensures.text.2 k at),
-  );
-}
+returns c = λ k at. subst (λ (fine : Bool). DoesReply (Some (Kept k)) (Some (values.Kept c.perform.new.kept)) c.perform.result (kept_does (fault_unless fine (Host Range)) (performs (Calls (Tune c.args.constants))) [] k)) c.requires (c.perform.ensures k at)

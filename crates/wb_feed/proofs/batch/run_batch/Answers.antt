@@ -1,4 +1,4 @@
-use Rattle.std.proofs.Common.{rules, ◌≡◌, List, [], Err, refl, ap, subst, sym, ◌∙◌}
+use Rattle.std.proofs.Common.{rules, ◌≡◌, ℕ, List, [], Err, refl, ap, subst, sym, ◌∙◌}
 use Rattle.wb_names.specs.Values.{DrawopValue}
 use Rattle.wb_feed.specs.Batches.{SharesAndCounts}
 use Rattle.wb_feed.specs.declared.workers.WorkFault.TheVariants.{Start}
@@ -14,6 +14,10 @@ pub returns-in-Ok-taken-clause-shared : goal.returns-in-Ok-taken-clause-shared
 returns-in-Ok-taken-clause-shared g c =
     subst (λ (given : List DrawopValue). SharesAndCounts c.args.workers c.args.desk.now given c.take_batch-taken.new.desk c.in-Ok-taken.batch) (sym (ap (λ v. v.items) c.into_arrived.ensures))
     c.in-Ok-taken.ensures.settled.shared
+
+pub returns-in-Ok-clause-shared : goal.returns-in-Ok-clause-shared
+returns-in-Ok-clause-shared g c =
+    subst (λ (n : ℕ). SharesAndCounts n c.args.desk.now c.take_alone-taken.new.arrived.items c.take_alone-taken.new.desk c.in-Ok.batch) (sym c.if-workers-eq1.true) c.in-Ok.ensures.settled.shared
 
 pub returns-then-workers-eq0-clause-gained : goal.returns-then-workers-eq0-clause-gained
 returns-then-workers-eq0-clause-gained g c = ([], g.met.S.Arrivals.gives_none _, loses_is _ _ _ refl)
