@@ -7,7 +7,7 @@ import json
 from pathlib import Path
 
 FAILED = Path(__file__).resolve().parent.parent / "out/pytest/v/cache/lastfailed"
-BY_THE_CLOCK = ("tests/live/", "tests/ui/", "tests/browser/")
+BY_THE_CLOCK = ("tests/live/", "tests/ui/", "tests/browser/", "tests/python/", "tests/javascript/", "tests/programs/")
 FEW = 3
 
 

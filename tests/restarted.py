@@ -16,6 +16,9 @@ from typing import Callable, Dict, List, Sequence, Tuple
 # seconds until they show one page, also on a machine that is busy
 LONGEST = 120.0
 
+# seconds for which a member listens that may have drawn, and some in which it starts
+LISTENING = 6.0 + 4.0
+
 ROWS = 12
 
 
@@ -37,6 +40,7 @@ class Losing:
         self.ways = {(one, other): bound() for one in range(len(ports)) for other in range(len(ports)) if one != other}
         self.ports = {way: ports[other] for (_, other), way in self.ways.items()}
         self.is_over = False
+        self.whole_until = 0.0  # a moment of `time.monotonic` until which nothing is lost
         self.thread = threading.Thread(target=self.carry, daemon=True)
         self.thread.start()
 
@@ -49,7 +53,7 @@ class Losing:
         while not self.is_over:
             for way in select.select(list(self.ports), [], [], 0.1)[0]:
                 datagram = way.recv(65_535)
-                if chance.random() >= 1 / 3:
+                if chance.random() >= 1 / 3 or time.monotonic() < self.whole_until:
                     way.sendto(datagram, ("127.0.0.1", self.ports[way]))
 
     def end(self) -> None:
@@ -110,6 +114,8 @@ def rows_of_two(words: Sequence[str], records: Sequence[str], more: Dict[str, st
         two.draw('text 0 1 "two"')
         come_to([one, two], ["one", "two"])
         one.end()
+        if "-" in records:  # who has no record, and hears no report while it listens, draws under an old number again
+            way.whole_until = time.monotonic() + LISTENING
         one = member(0)
         one.draw('text 0 2 "one anew"')
         return come_to([one, two], ["one", "two", "one anew"])
