@@ -184,14 +184,3 @@ def test_limits() -> None:
 
 def test_laws_of_the_numbers() -> None:
     nothing_is_wrong(unpinned_numbers())
-
-
-def test_what_stands_above_the_policy() -> None:
-    """ARCHITECTURE says of each crate above wb_policy how many minutes its proof may take."""
-    said = " ".join((TOP / "docs/ARCHITECTURE.md").read_text().split()).partition("By minutes of processor at most:")[2].partition(". ")[0]
-    budgets = dict(re.findall(r"^(wb\w*) ([\d.]+)$", (TOP / "tests/gate-budget").read_text(), re.MULTILINE))
-    above: list[str] = []
-    for crate, below in crates_below().items():
-        if {"wb_policy", *above} & set(below):
-            above.append(crate)
-    assert dict(re.findall(r"(wb\w*) ([\d.]+\d|\d+)", said)) == {crate: budgets[crate] for crate in above}
