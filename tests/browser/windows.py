@@ -6,7 +6,7 @@ import time
 from typing import Any
 
 from ..live.browser import PATIENCE, Browser, Missed, Page
-from ..ui.sheets import BY_CELLS
+from ..ui.sheets import BY_CELLS, middle_of
 
 # switches that keep a hidden page's clock going, which nobody's browser has
 FOR_TESTS_ALONE = ("--disable-background-timer-throttling", "--disable-renderer-backgrounding", "--disable-backgrounding-occluded-windows")
@@ -58,11 +58,7 @@ class Window:
 
     def point(self, x: int, y: int) -> tuple[float, float]:
         """Where the middle of a cell is."""
-        found = self.page.value(f"""(() => {{
-            const box = document.getElementById('sheet').getBoundingClientRect();
-            return [box.left + wb.view.pixelX({x}) + wb.view.wide / 2, box.top + wb.view.pixelY({y}) + wb.view.high / 2];
-        }})()""")
-        return found[0], found[1]
+        return middle_of(self.page, x, y)
 
     def drag(self, start: tuple[int, int], end: tuple[int, int]) -> None:
         self.page.drag(self.point(*start), self.point(*end))

@@ -67,6 +67,8 @@ def numbers(told: bytes) -> list[int]:
 class ByBytes(Host):
     """A host whose lines `came`, `tick`, `add` and questions become calls by bytes, and the events make each block."""
 
+    drafts_of = staticmethod(drafts)
+
     def __init__(self, library: Path) -> None:
         super().__init__(library)
         self.calls.wb_due.restype = ctypes.c_uint64
@@ -156,6 +158,8 @@ class ByBytes(Host):
 class JudgedByBytes(ByBytes):
     """A judged host whose lines `came`, `tick`, `add`, `wall`, `gone` and questions become calls by bytes."""
 
+    drafts_of = staticmethod(judged_drafts)
+
     def row(self, kind: int, its: bytes) -> str:
         """The line of an event."""
         if kind == SENT:
@@ -207,3 +211,16 @@ class JudgedByBytes(ByBytes):
             return self.judged(self.gone(int(now), rest[0]))
         # by bytes the place of a wrong word is that in a line of a host that is not judged, which has the time too
         return self.judged(self.add(int(now), self.drafts[line])).replace("refused word 6", "refused word 5")
+
+
+def compare(library: Path, kind: type[ByBytes], given: list[str]) -> int:
+    """How many lines of a conversation were made calls by bytes; each block is that of the line."""
+    lines, calls = Host(library), kind(library)
+    calls.drafts = kind.drafts_of(given)
+    assert (lines.open(), calls.open()) == (0, 0)
+    for line in given:
+        _, size, block = lines.line(line.encode(), 1 << 16)
+        assert calls.block_of(line) == block[:size].decode(), line
+    lines.close()
+    calls.close()
+    return calls.made

@@ -11,8 +11,7 @@ import pytest
 from ..host import datagrams
 from ..host.test_kept import DRAWING, KeptSession
 from ..transcripts import parted
-from .by_bytes import NEXT, PAGE, SENT, SHOWN, ByBytes, drafts
-from .calls import Host
+from .by_bytes import NEXT, PAGE, SENT, SHOWN, ByBytes, compare
 
 DONE, WAITS, NOTHING = 0, 1, 6
 CLOSED, NOT_KEPT, NO_MOMENT, BACK_IN_TIME, OURS, NO_DRAWOP, NO_QUESTION = 3, 7, 8, 9, 11, 13, 14
@@ -37,23 +36,10 @@ def kept(library: Path) -> ByBytes:
 # ---- the same as by lines
 
 
-def compare(library: Path, given: list[str]) -> int:
-    """How many lines of a conversation were made calls by bytes; each block is that of the line."""
-    lines, calls = Host(library), ByBytes(library)
-    calls.drafts = drafts(given)
-    assert (lines.open(), calls.open()) == (DONE, DONE)
-    for line in given:
-        _, size, block = lines.line(line.encode(), 1 << 16)
-        assert calls.block_of(line) == block[:size].decode(), line
-    lines.close()
-    calls.close()
-    return calls.made
-
-
 @pytest.mark.parametrize("seed", range(CONVERSATIONS))
 def test_the_same_as_by_lines(library: Path, seed: int) -> None:
     given, _ = KeptSession(random.Random(seed)).conversation(200)
-    assert compare(library, given.splitlines()) > 150
+    assert compare(library, ByBytes, given.splitlines()) > 150
 
 
 def test_the_same_over_what_is_drawn(library: Path) -> None:
@@ -61,7 +47,7 @@ def test_the_same_over_what_is_drawn(library: Path) -> None:
     made = 0
     for conversation in DRAWING:
         given = [line for line in parted(conversation.text)[0].splitlines() if line]
-        made += compare(library, given)
+        made += compare(library, ByBytes, given)
     assert made > 20
 
 

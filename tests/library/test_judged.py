@@ -17,7 +17,7 @@ from ..host.program import TOP, program
 from ..host.test_drivers import Relay
 from ..host.test_judged import TRANSCRIPTS, JudgedSession
 from ..transcripts import JUDGED_HOST, cases, parted, read
-from .by_bytes import DREW, DROPPED, GREATEST, MISSING, NEW, NEXT, PAGE, PAINTED, RECORD, SENT, SHOWN, JudgedByBytes, judged_drafts
+from .by_bytes import DREW, DROPPED, GREATEST, MISSING, NEW, NEXT, PAGE, PAINTED, RECORD, SENT, SHOWN, JudgedByBytes, compare
 from .calls import Host
 from .test_bytes import drawn
 from .test_library import by_library, by_program
@@ -81,28 +81,15 @@ def test_the_same_blocks_as_the_program(host_in_c: Path) -> None:
 # ---- calls by bytes
 
 
-def compare(library: Path, given: list[str]) -> int:
-    """How many lines of a conversation were made calls by bytes; each block is that of the line."""
-    lines, calls = Host(library), JudgedByBytes(library)
-    calls.drafts = judged_drafts(given)
-    assert (lines.open(), calls.open()) == (DONE, DONE)
-    for line in given:
-        _, size, block = lines.line(line.encode(), 1 << 16)
-        assert calls.block_of(line) == block[:size].decode(), line
-    lines.close()
-    calls.close()
-    return calls.made
-
-
 @pytest.mark.parametrize("seed", range(RANDOM))
 def test_the_same_by_bytes(library: Path, seed: int) -> None:
     """Event for event, and each in its place."""
     given = JudgedSession(random.Random(1000 + seed)).conversation(200)[0].splitlines()
-    assert compare(library, given) > 150
+    assert compare(library, JudgedByBytes, given) > 150
 
 
 def test_the_same_over_what_was_worked_out(library: Path) -> None:
-    made = sum(compare(library, [line for line in parted(it.text)[0].splitlines() if line]) for it in TRANSCRIPTS)
+    made = sum(compare(library, JudgedByBytes, [line for line in parted(it.text)[0].splitlines() if line]) for it in TRANSCRIPTS)
     assert made > 40
 
 

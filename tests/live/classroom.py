@@ -24,7 +24,7 @@ from pathlib import Path
 from typing import Any, BinaryIO, Dict, Iterator, List, NamedTuple, Sequence, Tuple
 
 from wb import ink
-from .members import Process, program
+from .members import Process, frames, program
 
 PAIRS = (8, 10_000), (8, 60_000), (24, 10_000), (30, 10_000), (30, 20_000)
 
@@ -157,20 +157,6 @@ class Browser:
     def close(self) -> None:
         self.connection.close()
         self.requests.close()
-
-
-def frames(stream: BinaryIO) -> Iterator[bytes]:
-    """What a server sends by a WebSocket."""
-    while True:
-        head = stream.read(2)
-        if len(head) < 2:
-            return
-        size = head[1]
-        if size >= 126:
-            size = int.from_bytes(stream.read(2 if size == 126 else 8), "big")
-        data = stream.read(size)
-        if head[0] & 15 == 1:
-            yield data
 
 
 class Cost(NamedTuple):

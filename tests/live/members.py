@@ -13,7 +13,7 @@ import tempfile
 import threading
 import time
 from pathlib import Path
-from typing import Any, Callable, Dict, Iterator, List, Optional, Tuple
+from typing import Any, BinaryIO, Callable, Dict, Iterator, List, Optional, Tuple
 
 TOP = Path(__file__).resolve().parent.parent.parent
 
@@ -194,6 +194,20 @@ def change_board(board: Dict[str, Any], change: Dict[str, Any]) -> None:
     board["rows"] = rows
 
 
+def frames(stream: BinaryIO) -> Iterator[bytes]:
+    """What a server sends by a WebSocket."""
+    while True:
+        head = stream.read(2)
+        if len(head) < 2:
+            return
+        size = head[1]
+        if size >= 126:
+            size = int.from_bytes(stream.read(2 if size == 126 else 8), "big")
+        data = stream.read(size)
+        if head[0] & 15 == 1:
+            yield data
+
+
 def messages(path: str, port: int) -> Iterator[Tuple[str, Any]]:
     """What a WebSocket of this machine tells, until it ends."""
     with socket.create_connection(("127.0.0.1", port), timeout=PATIENCE) as connection:
@@ -205,17 +219,8 @@ def messages(path: str, port: int) -> Iterator[Tuple[str, Any]]:
             raise ValueError("no WebSocket")
         while stream.readline().strip():
             pass
-        while True:
-            head = stream.read(2)
-            if len(head) < 2:
-                return
-            size = head[1]
-            if size >= 126:
-                size = int.from_bytes(stream.read(2 if size == 126 else 8), "big")
-            data = stream.read(size)
-            if head[0] & 15 == 1:
-                told = json.loads(data)
-                yield told["name"], told["news"]
+        for told in map(json.loads, frames(stream)):
+            yield told["name"], told["news"]
 
 
 SLOW_FROM = 0.2

@@ -28,7 +28,7 @@ from live.record import Record
 from live.words import SharedWords
 from ..facts import Facts
 from .browser import Browser, find_chromium
-from .members import PATIENCE, Process, change_board, comes, script_of
+from .members import PATIENCE, Process, change_board, comes, frames, script_of
 
 FIRST_PORT = 26_840
 CROWD = 50
@@ -104,15 +104,9 @@ class Window:
 
     def hear(self, stream: BinaryIO) -> None:
         try:
-            while True:
-                head = stream.read(2)
-                size = head[1]
-                if size >= 126:
-                    size = int.from_bytes(stream.read(2 if size == 126 else 8), "big")
-                data = stream.read(size)
-                if head[0] & 15 == 1:
-                    self.learn(stream, json.loads(data))
-        except (OSError, ValueError, IndexError):
+            for data in frames(stream):
+                self.learn(stream, json.loads(data))
+        except (OSError, ValueError):
             pass
 
     def learn(self, stream: BinaryIO, told: Dict[str, Any]) -> None:

@@ -111,6 +111,10 @@ def test_awaited(facts: Facts) -> None:
         one.board.strange |= {(source, PAGE, seq)} if is_strange else set()
         one.telling.notice_fate((source, PAGE, seq), "new")
 
+    def ask_beside_another(seq: int) -> None:
+        one.meet(more=" 7=9")
+        one.judging.outgoing(asking(7, seq))
+
     given(900, 2**32 - 1, is_strange=True)
     facts("nothing is missing below a stranger's drawing", missing(), 0)
     one.meet(more=" 900=4294967295")
@@ -126,8 +130,7 @@ def test_awaited(facts: Facts) -> None:
     facts("while nobody is heard, it is waited for", missing(), 4)
     for asked in range(1, IN_VAIN):
         facts("asked %d times in vain" % asked, missing(), 4)
-        one.meet(more=" 7=9")
-        one.judging.outgoing(asking(7, 2))
+        ask_beside_another(2)
     facts("what nobody has is not waited for", missing(), 0)
     given(8, 3)
     facts("what another has is", missing(), 2)
@@ -137,8 +140,7 @@ def test_awaited(facts: Facts) -> None:
     facts("one that comes of a member does", missing(), 5)
     one.judging.outgoing(asking(8, 1))
     for _ in range(IN_VAIN):
-        one.meet(more=" 7=9")
-        one.judging.outgoing(asking(7, 3))
+        ask_beside_another(3)
     facts("nor is one waited for whose turn to be asked for has not come again", missing(), 0)
     for page in range(2 * MOST_REPORTED):
         one.telling.reported.ask((7, (9, page), 1))

@@ -13,7 +13,7 @@ import tempfile
 from collections import Counter
 from concurrent.futures import Future
 from pathlib import Path
-from typing import Any, Dict, List, NamedTuple, Optional, Tuple
+from typing import Any, Callable, Dict, List, NamedTuple, Optional, Tuple
 from unittest import mock
 
 from live.board import LISTENING
@@ -184,6 +184,20 @@ class World:
                 acting.judging.arrive([Arrival(arrival.data, arrival.origin)])
             acting.look()
 
+    def lose_drawing(self, member: "Virtual") -> None:
+        """A member draws, and no other gets it."""
+        self.loss = 1.0
+        member.draw(1)
+        self.loss = LOSS
+
+    def run_until(self, is_so: Callable[[], bool], longest: int) -> Optional[int]:
+        """After how many seconds something is so; none if it takes longer."""
+        for second in range(1, longest + 1):
+            self.run(1)
+            if is_so():
+                return second
+        return None
+
     def pairs(self) -> float:
         """Which part of all pairs know each other, one of the other."""
         known = [one.knows(other) for one in self.members for other in self.members if one is not other]
@@ -262,15 +276,9 @@ def beside_forged_pages(forged: int, longest: int = 240) -> AfterForgeries:
             for member in members:
                 world.put(world.now + 2_000 * number, member, Origin("eve%d" % (number % 9)), drawn(900, 1, world.wall(), 99, b"e", (0, number + 1)))
         world.run(10)
-        world.loss = 1.0
-        members[0].draw(1)
-        world.loss = LOSS
+        world.lose_drawing(members[0])
         drawn_on = len(members[1].member.drawn.drawn_pages())
-        for second in range(1, longest + 1):
-            world.run(1)
-            if members[1].member.drawn.holds((1, PAGE, 1)):
-                return AfterForgeries(second, drawn_on)
-        return AfterForgeries(None, drawn_on)
+        return AfterForgeries(world.run_until(lambda: members[1].member.drawn.holds((1, PAGE, 1)), longest), drawn_on)
 
 
 def beside_pages_of_a_member(pages: int, longest: int = 240) -> Optional[int]:
@@ -284,14 +292,8 @@ def beside_pages_of_a_member(pages: int, longest: int = 240) -> Optional[int]:
             world.run(0.1)
         while members[1].held() < pages:
             world.run(10)
-        world.loss = 1.0
-        members[0].draw(1)
-        world.loss = LOSS
-        for second in range(1, longest + 1):
-            world.run(1)
-            if members[1].member.drawn.holds((1, PAGE, 1)):
-                return second
-        return None
+        world.lose_drawing(members[0])
+        return world.run_until(lambda: members[1].member.drawn.holds((1, PAGE, 1)), longest)
 
 
 class Crowded(NamedTuple):
@@ -394,12 +396,7 @@ def among_departed(drawops: int, newcomers: int, pages: int = 4, longest: int = 
         path.write_text("board 1 %d 1 42\ntick 5\n" % CELLS + "".join("datagram %s\n" % each for each in digits))
         world.join(1, str(path))
         members = [world.join(number) for number in range(2, newcomers + 2)]
-        whole = None
-        for second in range(1, longest + 1):
-            world.run(1)
-            if all(member.held() == drawops for member in members):
-                whole = second
-                break
+        whole = world.run_until(lambda: all(member.held() == drawops for member in members), longest)
         return Departed(whole, [dict(member.judging.dropped) for member in members], [len(member.judging.fetched) for member in members])
 
 

@@ -54,6 +54,15 @@ COVERED_FOR = 10.0
 COVERED: list[str] = []
 
 
+def middle_of(page: Page, x: int, y: int) -> tuple[float, float]:
+    """Where the middle of a cell is in the window."""
+    found = page.value(f"""(() => {{
+        const box = document.getElementById('sheet').getBoundingClientRect();
+        return [box.left + wb.view.pixelX({x}) + wb.view.wide / 2, box.top + wb.view.pixelY({y}) + wb.view.high / 2];
+    }})()""")
+    return found[0], found[1]
+
+
 class Sheet:
     """A member's window, by cells."""
 
@@ -78,11 +87,7 @@ class Sheet:
 
     def point(self, x: int, y: int) -> tuple[float, float]:
         """Where the middle of a cell is in the window."""
-        found = self.page.value(f"""(() => {{
-            const box = document.getElementById('sheet').getBoundingClientRect();
-            return [box.left + wb.view.pixelX({x}) + wb.view.wide / 2, box.top + wb.view.pixelY({y}) + wb.view.high / 2];
-        }})()""")
-        return found[0], found[1]
+        return middle_of(self.page, x, y)
 
     def drag(self, start: tuple[int, int], end: tuple[int, int]) -> None:
         if self.hand == "finger":
