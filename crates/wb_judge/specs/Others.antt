@@ -45,6 +45,18 @@ with_place_for others = if nat_lt (length others) MOST_OTHERS then others else r
 unfoldable pub other_with : Other → List Other → List Other
 other_with x others = with_place_for (without x.number others) ++ x ∷ []
 
+-- somebody has answered under it
+abbrev pub was_answered : Option Other → Bool
+was_answered None = false
+was_answered (Some x) = is_some x.answered
+
+-- What a record says: a number answered from there once. Whoever has answered since it began keeps the number.
+abbrev pub answered_once : ℕ → Origin → Other
+answered_once number o = record { number = number; origin = o; at = 0; answered = Some 0; fetched = None }
+
+unfoldable pub recalled : ℕ → Origin → List Other → List Other
+recalled number o others = if was_answered (other_of number others) then others else other_with (answered_once number o) others
+
 -- heard so lately that it is still here
 abbrev pub is_here : ℕ → Other → Bool
 is_here now x = nat_le (now - x.at) PATIENCE
