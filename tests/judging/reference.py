@@ -178,6 +178,12 @@ class Judge:
         if len(self.strange) < self.most_strange:
             self.strange[name] = Origin("record")
 
+    def recall(self, number: int, origin: Origin) -> None:
+        """By the record, a number answered from there once. Whoever has answered under it since keeps it, and ours is ours."""
+        other = self.others.get(number)
+        if number != self.me and (other is None or other.answered is None):
+            self.put(number, Other(origin, 0, answered=0))
+
     def leave(self, origin: Origin) -> None:
         """The network says that who spoke from there is gone."""
         self.known.pop(origin, None)
@@ -301,13 +307,18 @@ class Judge:
         return Verdict(None, "mark" if not facts.listens and own > facts.top else None, self.fetch(datagram.speaker, facts))
 
     def hear(self, number: int, origin: Origin, now: int, is_answer: bool) -> None:
-        """A number speaks from there. Of too many, one that has not answered us goes first."""
-        before = self.others.pop(number, None)
+        """A number speaks from there."""
+        before = self.others.get(number)
         other = before if before is not None and before.origin == origin else Other(origin, now)
         other.at = now
         if is_answer:
             other.answered = now
             self.know(origin, now)
+        self.put(number, other)
+
+    def put(self, number: int, other: Other) -> None:
+        """The number is the last that is remembered. Of too many, one that has not answered us goes first."""
+        self.others.pop(number, None)
         self.others[number] = other
         if len(self.others) > MOST_OTHERS:
             unanswered = [each for each, one in self.others.items() if one.answered is None and each != number]

@@ -142,14 +142,14 @@ spoken_in o (AskPages asker) f j = inl (silent o (AskPages asker) f j refl)
 -- ---- who was heard
 
 -- which entry that is
-record Entry (o : Origin) (number at : ℕ) (others : List Other) : Type 0 where
-  x : Other
-  found : other_of number others ≡ Some x
-  origin : same_origin x.origin o ≡ true
-  answered : is_some x.answered ≡ true
-  late : at ≤ x.at
+pub record Entry (o : Origin) (number at : ℕ) (others : List Other) : Type 0 where
+  pub x : Other
+  pub found : other_of number others ≡ Some x
+  pub origin : same_origin x.origin o ≡ true
+  pub answered : is_some x.answered ≡ true
+  pub late : at ≤ x.at
 
-entry_of : (o : Origin) (number at : ℕ) (others : List Other) → is_heard_since o at (other_of number others) ≡ true → Entry o number at others
+pub entry_of : (o : Origin) (number at : ℕ) (others : List Other) → is_heard_since o at (other_of number others) ≡ true → Entry o number at others
 entry_of o number at others heard = by (other_of number others) refl heard where
   by : (x : Option Other) → other_of number others ≡ x → is_heard_since o at x ≡ true → Entry o number at others
   by None is e = absurd (true≢false (sym e))

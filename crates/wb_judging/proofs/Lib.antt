@@ -22,4 +22,4 @@ pub mod Asked
 pub mod Patching
 pub mod MembersIn
 pub mod MembersStay
-pub mod Owners
+pub mod OwnersKnown
