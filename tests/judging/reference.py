@@ -17,7 +17,7 @@ OWN, FRESH, DRIFT = 256, 256 * SECOND, 4_096
 # the most origins of which the last report under our number is remembered that is not ours
 MOST_ALIENS = 8
 
-# An origin that answered us is known until it was silent for so long, and a number stays with its origin for so long.
+# An origin that answered us is known until it was silent for so long, and a number that has no owner stays with its origin for so long.
 SILENCE, PATIENCE = 600 * SECOND, 192 * SECOND
 
 # origins that are known, and numbers that were heard
@@ -206,7 +206,8 @@ class Judge:
     def is_bound_elsewhere(self, number: int, origin: Origin, now: int) -> bool:
         """Whether a number is that of a member that has answered us and speaks from another origin."""
         other = self.others.get(number)
-        return other is not None and other.origin != origin and other.answered is not None and now - other.at <= PATIENCE
+        is_there = other is not None and (now - other.at <= PATIENCE or other.origin.owner is not None)
+        return other is not None and other.origin != origin and other.answered is not None and is_there
 
     def has_number(self, origin: Origin) -> bool:
         return any(other.origin == origin for other in self.others.values())

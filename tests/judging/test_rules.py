@@ -83,6 +83,7 @@ RULES = [
     Rule("a number is its owner's", "return None not in (owner, origin.owner) and owner != origin.owner", "return False", "names at a broker"),
     Rule("ours is ours", "return self.here if number == self.me else", "return None if number == self.me else", "names at a broker"),
     Rule("who claims a number does not own it", "if other is not None and other.answered is not None else None", "if other is not None else None", "whoever claims a number at a broker keeps it from nobody"),
+    Rule("an owner that was silent keeps its number", " or other.origin.owner is not None)", ")", "an owner that was silent keeps its number, also while it claims that from elsewhere"),
     Rule("an owner outlives a start", "            self.put(number, Other(origin, 0, answered=0))\n", "            pass\n", "an owner that the record names is not forgotten over a start"),
     Rule("unless somebody has answered since", "and (other is None or other.answered is None):", "and number:", "whoever answers keeps a number against what the record says later, and who only claims it does not"),
     Rule("a claim is no answer", "and (other is None or other.answered is None):", "and other is None:", "whoever answers keeps a number against what the record says later, and who only claims it does not"),

@@ -7,7 +7,8 @@ ghost use Rattle.wb_judge.specs.Members.{KnownAgain, KnownBeside, MembersAreHear
 ghost use Rattle.wb_judge.specs.Laws.{AMemberIsNotDropped, AliensStay, ClaimsBindNobody, FewAreTaken, NamesCountOnce, NamesTakeTurns, NewcomersHaveRoom, NobodyHushesFirmNames, NumbersStay, OnlyAnswersMakeKnown, OnlyMembersTell, OwnersAreRecalled, OwnersBeside, OwnersStay, RepairsAreFew, RepairsAreShared, ReplayIsNoTwin, SharesStay, StateIsBounded, StaysStrange, StrangersAreFew, StrangersHaveAShare, StrangersHushNobody, StrangersLeaveNoHoles, TurnsAreFew, VouchesForNobody};
 
 /// An origin becomes known by an answer that came from there, and by nothing else. A number that
-/// has answered us stays where it speaks, while it speaks, until it answers from elsewhere.
+/// has answered us stays where it speaks, while it speaks or has an owner, until it answers from
+/// elsewhere.
 pub fn only_answers_make_known()
     ensures known { OnlyAnswersMakeKnown }
     ensures numbers { NumbersStay }

@@ -71,7 +71,8 @@ impl Others {
         self.items.iter().any(|other| other.origin.is(&origin))
     }
 
-    /// Whether it is that of a member that has answered us and speaks from another origin.
+    /// Whether it is that of a member that has answered us and speaks from another origin: it was
+    /// heard there lately, or has an owner.
     #[tactic(auto, unfolding(crate::specs::Others::is_bound_elsewhere))]
     pub(crate) fn is_bound_elsewhere(&self, number: u32, origin: Origin, now: u64) -> bool
         ensures { result ≡ is_bound_elsewhere number origin now self.now }
@@ -81,7 +82,7 @@ impl Others {
             Some(other) => {
                 !other.origin.is(&origin)
                     && other.answered.is_some()
-                    && now.saturating_sub(other.at) <= PATIENCE
+                    && (now.saturating_sub(other.at) <= PATIENCE || other.origin.owner.is_some())
             }
         }
     }

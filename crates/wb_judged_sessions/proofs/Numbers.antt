@@ -1,7 +1,7 @@
 -- What a judge has heard of a number stays after each datagram, if nobody answers under that number from elsewhere.
 use Rattle.std.proofs.Common.{◌≡◌, ◌⊎◌, ◌∙◌, ◌≤◌, ◌<◌, ◌+◌, ◌-◌, ℕ, Bool, true, false, cond, List, [], ap, arith, filter, inl, inr, length, refl, subst, sym, true≢false, ⊎_elim}
 use Rattle.std.specs.Prelude.{◌&&◌, ◌||◌, Option, None, Some, is_some, nat_eq, nat_le, not}
-use Rattle.std.proofs.lemmas.Bool.{and_from, and_parts, eq-eqb, eqb-true, le-leb, leb-true, or_right}
+use Rattle.std.proofs.lemmas.Bool.{and_from, and_parts, eq-eqb, eqb-true, le-leb, leb-true, or_left, or_right}
 use Rattle.std.proofs.lemmas.Bool.Decides.{nat_tests}
 use Rattle.wb_names.specs.Values.{MarkValue}
 use Rattle.wb_names.specs.declared.echo.Echo.{Echo}
@@ -178,8 +178,8 @@ said_again fetch o number answer now since at others le e =
 not_elsewhere : (o p : Origin) (number now at : ℕ) (others : List Other) → now ≤ at + PATIENCE → (e : Entry o number at others) → is_bound_elsewhere number p now others ≡ false → same_origin p o ≡ true
 unfolding is_bound_elsewhere
 not_elsewhere o p number now at others soon e free = by (same_origin e.x.origin p) refl where
-  lately : nat_le (now - e.x.at) PATIENCE ≡ true
-  lately = let le = e.late in le-leb (now - e.x.at) PATIENCE (omega (arith, le, soon))
+  lately : (nat_le (now - e.x.at) PATIENCE || is_some e.x.origin.owner) ≡ true
+  lately = let le = e.late in or_left (nat_le (now - e.x.at) PATIENCE) (is_some e.x.origin.owner) (le-leb (now - e.x.at) PATIENCE (omega (arith, le, soon)))
 
   bound : same_origin e.x.origin p ≡ false → is_bound_elsewhere number p now others ≡ true
   bound apart =
@@ -230,7 +230,7 @@ not_bound : (o : Origin) (number now at : ℕ) (others : List Other) (e : Entry 
 unfolding is_bound_elsewhere
 not_bound o number now at others e =
     ap (λ (x : Option Other). numbers.is_elsewhere o now x) e.found
-    ∙ ap (λ (b : Bool). (not b && is_some e.x.answered) && nat_le (now - e.x.at) PATIENCE) e.origin
+    ∙ ap (λ (b : Bool). (not b && is_some e.x.answered) && (nat_le (now - e.x.at) PATIENCE || is_some e.x.origin.owner)) e.origin
 
 no_other_owner : (a : Option ℕ) → is_another a a ≡ false
 no_other_owner None = refl
