@@ -5,16 +5,16 @@ from __future__ import annotations
 import contextlib
 import secrets
 import time
-from typing import Any, Callable, Iterator, List, Optional, Sequence, Set, Tuple
+from typing import Any, Callable, Dict, Iterable, Iterator, List, Optional, Sequence, Set, Tuple
 
 from wbhost import LINES, Block, Host, HostEnded
 
-from .carriers.carrier import Origin, number_of
+from .carriers.carrier import Origin, owner_number
 from .clock import SECOND, Clock, wall
 from .constants import FEW
 from .held import Held, held_of
 from .options import Options
-from .record import FIRST_LINE, MOST_MOMENT, Act, NoRoom, Record, RecordFault, comment, write_record
+from .record import FIRST_LINE, MOST_MOMENT, OWNER, Act, NoRoom, Record, RecordFault, comment, write_record
 from .showing import Since
 from .views import Drawop, Name, Page, name_in, name_of, name_on
 from .waiting import Waiting
@@ -80,6 +80,7 @@ class Board:
         self.is_broken = False  # the record could not be written
         self.sync_kept: Callable[[], None] = nothing  # puts what is kept elsewhere on the disk, for a record that does not last
         self.strange: Set[Name] = set()  # what of the drawops no member gave, by the lines of the record
+        self.owners: Dict[str, str] = {}  # the line of the record that gives a number its owner: the first of each number holds
 
     def open(self, me: int) -> None:
         """Starts the host: with what the record has, or with a new board. It listens where the number may have drawn what the record lacks."""
@@ -106,6 +107,8 @@ class Board:
         self.host = Host(self.program, "--tuning", self.tuning)
         try:
             self.begin(held, listening, lead)
+            for some in self.parts(held.owners, None, 0):
+                self.check_taken(some, self.ask(["held " + line for line in some]))
             blocks = [block for some in self.parts(held.lines, waiting, 0) for block in self.ask(["held " + line for line in some])]
             self.check_taken(held.lines, blocks)
             return list(zip(held.datagrams, blocks))
@@ -117,7 +120,7 @@ class Board:
         """Gives a new host its board. RecordFault if it can't have that one."""
         self.begun_at = self.moment = 1 + max(self.moment, held.moment + int(lead * (MOST_MOMENT - held.moment)))
         self.ready_at = self.moment + max(LEAST_LISTENING, listening)
-        self.strange = held.strange
+        self.strange, self.owners = held.strange, owners_in(held.owners)
         begun = self.ask([held.board, self.line_to_judge()])
         if any(block.fault is not None for block in begun):
             raise RecordFault("%s: no host can have its board: %s" % (self.record.path, held.board))
@@ -131,7 +134,7 @@ class Board:
     def line_to_judge(self) -> str:
         """The line that makes a host judge. Under a key nobody is a stranger for long, and what came before is replayed from outside."""
         self.wall, self.wall_at = wall(), self.moment
-        here = number_of(self.options.login.name) if self.options.login else "-"
+        here = owner_number(self.options.login.name) if self.options.login else "-"
         return "judge %d %d %d %d %s %s" % (self.moment, self.options.rate, self.ready_at - self.moment, self.wall, here, "0" if self.options.lock else "-")
 
     def parts(self, many: List[str], waiting: Optional[Waiting], half: int) -> Iterator[List[str]]:
@@ -207,16 +210,16 @@ class Board:
         self.tuning = constants
         self.tell("tuning " + constants.replace(",", " "))
 
-    def act(self, lines: Sequence[str]) -> List[Block]:
-        """The blocks of lines of others and of the clock. What they record is recorded."""
+    def act(self, lines: Sequence[str], without: Tuple[str, ...] = ()) -> List[Block]:
+        """The blocks of lines of others and of the clock. What they record is recorded, but for lines that begin so."""
         blocks = self.tell_all(lines)
-        self.keep([line for block in blocks for line in said(block, "record")])
+        self.keep([line for block in blocks for line in said(block, "record") if not line.startswith(without)])
         return blocks
 
     def came(self, many: Sequence[str], origin: Origin) -> List[Block]:
-        """Gives the host datagrams that came in from there."""
+        """Gives the host datagrams that came in from there. An owner whose name does not last is none at the next start."""
         now = self.now()
-        return self.act(["came %d %s %s" % (now, origin.word, digits) for digits in many])
+        return self.act(["came %d %s %s" % (now, origin.word, digits) for digits in many], () if origin.lasts else (OWNER,))
 
     def take(self, drawops: Sequence[Drawop], origin: Origin) -> List[Block]:
         """Gives the host drawops that came in from there. The listener gets those that are new."""
@@ -237,12 +240,12 @@ class Board:
 
     def begin_with(self, lines: List[str], told: bytes, strange: Set[Name]) -> None:
         """Takes in what another member of this program holds, as at a start from a record, before all else: lines, and the same after `held`."""
-        self.strange, self.record.given = set(strange), lines
+        self.strange, self.owners, self.record.given = set(strange), owners_in(lines), lines
         try:
             printed = self.host.take_all(told)
         except HostEnded:
             return self.start_again()
-        if [line[:5] for line in printed].count(b"drew ") < len(lines):
+        if [line[:5] for line in printed].count(b"drew ") < len(lines) - len(self.owners):
             raise BoardFault("the host did not take what another holds")
         self.due = self.host.due
 
@@ -303,6 +306,8 @@ class Board:
         """Puts lines into the record, and those before them for which there was no room."""
         for line in lines:
             self.note_giver(line)
+        for number, line in owners_in(lines).items():
+            self.owners.setdefault(number, line)
         self.unkept += lines
         try:
             self.write(self.unkept)
@@ -347,7 +352,7 @@ class Board:
         """Goes on under another number, with a record of its own and with all that was held. NoRoom, RecordFault or OSError if there is no
         room for that record: then all stays as it is."""
         head = [FIRST_LINE, "board %d %d 1 %d" % (me, self.cells, secrets.randbits(64))]
-        lines = [*head, "tick %d" % self.moment, *(line_of(drawop, self.strange) for drawop in held)]
+        lines = [*head, *self.owners.values(), "tick %d" % self.moment, *(line_of(drawop, self.strange) for drawop in held)]
         before, self.record = self.record, write_record(path, lines)
         self.unkept, self.unsynced, self.ready_at = [], [], self.moment
         if path == before.path:
@@ -396,6 +401,15 @@ class Board:
         while rows and not rows[-1]:
             rows.pop()
         return rows
+
+
+def owners_in(lines: Iterable[str]) -> Dict[str, str]:
+    """The lines of a record that give numbers their owners, by the number: of each the first."""
+    owners: Dict[str, str] = {}
+    for line in lines:
+        if line.startswith(OWNER):
+            owners.setdefault(line.split(" ")[1], line)
+    return owners
 
 
 def line_of(drawop: Drawop, strange: Set[Name]) -> str:

@@ -2,7 +2,7 @@
 anything. So it asks for nothing, and nobody repairs anything for it."""
 from __future__ import annotations
 
-from typing import TYPE_CHECKING, List, NamedTuple, Optional, Set
+from typing import TYPE_CHECKING, Dict, List, NamedTuple, Optional, Set
 
 from .board import line_of
 from .drawn import Drawn
@@ -14,8 +14,8 @@ if TYPE_CHECKING:
 
 
 class Given(NamedTuple):
-    """What was held at some time, the same as lines of a record, and as those that a host takes, what of it no member gave, and what the first page
-    shows. Many may begin with it, so nobody changes it."""
+    """What was held at some time, the same as lines of a record with who owns numbers, and as those that a host takes, what of it no member gave, and
+    what the first page shows. Many may begin with it, so nobody changes it."""
 
     drawn: Drawn
     lines: List[str]
@@ -30,13 +30,15 @@ class Giving:
     def __init__(self, member: Member) -> None:
         self.member = member
         self.last: Optional[Given] = None
+        self.owners: Dict[str, str] = {}  # as the last has them
         self.showing: Optional[Showing] = None
         self.host: object = None  # that said what it shows
 
     def give(self) -> Given:
-        drawn, strange = self.member.drawn, self.member.board.strange
-        if self.last is None or (self.last.drawn.total, self.last.strange) != (drawn.total, strange):
-            lines = [line_of(drawop, strange) for drawop in drawn.all()]
+        drawn, strange, owners = self.member.drawn, self.member.board.strange, self.member.board.owners
+        if self.last is None or (self.last.drawn.total, self.last.strange, self.owners) != (drawn.total, strange, owners):
+            self.owners = dict(owners)
+            lines = [*owners.values(), *(line_of(drawop, strange) for drawop in drawn.all())]
             told = "".join(["held %s\n" % line for line in lines]).encode("latin-1")
             self.last = Given(drawn.copy(), lines, told, set(strange), self.show())
         return self.last

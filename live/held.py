@@ -4,7 +4,7 @@ from __future__ import annotations
 import subprocess
 from typing import Dict, Iterable, List, NamedTuple, Optional, Sequence, Set
 
-from .record import Act, RecordFault
+from .record import OWNER, Act, RecordFault
 from .views import Name, Report, name_in, name_of, page_text
 
 # what of a datagram in words changes what is held, or the next number
@@ -18,14 +18,15 @@ NOTHING = "#"
 
 
 class Held(NamedTuple):
-    """The line of a board, a moment, datagrams in hexadecimal, the line of each of these that a judged host takes, and which drawops of
-    these no member gave."""
+    """The line of a board, a moment, datagrams in hexadecimal, the line of each of these that a judged host takes, which drawops of these no
+    member gave, and who owns numbers."""
 
     board: str
     moment: int
     datagrams: List[str]
     lines: List[str]
     strange: Set[Name]
+    owners: List[str]
 
 
 def held_of(program: str, acts: Iterable[Act]) -> Held:
@@ -46,7 +47,8 @@ def held_of(program: str, acts: Iterable[Act]) -> Held:
             given.append(drawop_in(line, digits) if name_of(digits) else mark_in(line, int(board.split(" ")[1])))
             strange[digits] = name_in(line) if line.startswith("draw ") else None
     moments = [int(line[5:]) for line in lines if line.startswith("tick ")]
-    return Held(board, max(moments, default=0), datagrams, given, {name for name in strange.values() if name})
+    owners = [str(line) for line in lines if line.startswith(OWNER)]
+    return Held(board, max(moments, default=0), datagrams, given, {name for name in strange.values() if name}, owners)
 
 
 def drawop_in(line: str, digits: str) -> str:

@@ -1,7 +1,7 @@
 """The record of a member: the lines that made its board, in a file that a host can be given again.
 
-It has the line of the board, each drawop that was new, with the moment at which it came, and marks of the member's own number
-that were heard at its start. Questions, what was refused, and what others asked for change nothing that is held: they are not there."""
+It has the line of the board, each drawop that was new, with the moment at which it came, marks of the member's own number that
+were heard at its start, and who owns numbers where the network keeps names. Questions, what was refused, and what others asked for change nothing that is held: they are not there."""
 from __future__ import annotations
 
 import contextlib
@@ -40,8 +40,10 @@ CUT = re.compile(b"[a-z]{0,5}[0-9 ]{0,40}")  # of the line of the board
 # The moments of a host are below 2^48 microseconds. A record has a day left until then, or it would start and draw nothing
 MOST_MOMENT = 2**48 - 86_400 * 10**6
 
-# the lines whose form is known here: a moment, and a datagram by its digits
+# the lines whose form is known here: a moment, who owns a number, and a datagram by its digits
 MOMENT = re.compile("tick ([0-9]{1,15})")
+OWNER = "owner "
+OWNED = re.compile("owner [0-9]{1,10} [0-9]{1,20}@[0-9]{1,20}")
 DIGITS = re.compile("(?:datagram|arrive|hear) (?:[0-9a-fA-F]{2})+")
 
 # how many letters of an unreadable line a message has
@@ -66,6 +68,8 @@ class Act(str):
         moment = MOMENT.fullmatch(self)
         if self.startswith("tick ") and not (moment and int(moment[1]) < MOST_MOMENT):
             raise self.fault("it is no moment of a board that goes on")
+        if self.startswith(OWNER) and not OWNED.fullmatch(self):
+            raise self.fault("it names no owner")
         if self.startswith(("datagram ", "arrive ", "hear ")) and not DIGITS.fullmatch(self):
             raise self.fault("it has no pairs of digits")
 

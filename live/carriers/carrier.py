@@ -15,7 +15,7 @@ MOST_BYTES = 65_507
 SEALED = 45
 
 
-# Texts become numbers with this key. Nobody else knows it, so nobody finds two texts of one number.
+# Places become numbers with this key. Nobody else knows it, so nobody finds two places of one number.
 KEY = os.urandom(16)
 
 
@@ -25,13 +25,14 @@ class NetworkFault(Exception):
 
 @dataclass(frozen=True)
 class Origin:
-    """Where a datagram came from. Two that differ are two senders. If it is kept, the network lets nobody else send from there; under a
-    key one start of a member has one tag, wherever it sends from."""
+    """Where a datagram came from. Two that differ are two senders. If it is kept, the network lets nobody else send from there, and if it
+    lasts, under the same name at each start; under a key one start of a member has one tag, wherever it sends from."""
 
     text: str
     is_kept: bool = False
     address: Optional[Address] = field(default=None, compare=False)  # of UDP, beside which a stream may be had
     tag: str = ""
+    lasts: bool = field(default=True, compare=False)
 
     @property
     def owner(self) -> Optional[str]:
@@ -41,13 +42,19 @@ class Origin:
     @property
     def word(self) -> str:
         """The word for it in the lines of a host: PLACE, or PLACE@OWNER."""
-        place = number_of(self.text + "\0" + self.tag)
-        return "%d" % place if self.owner is None else "%d@%d" % (place, number_of(self.owner))
+        place = number_of(self.text + "\0" + self.tag, KEY)
+        return "%d" % place if self.owner is None else "%d@%d" % (place, owner_number(self.owner))
 
 
-def number_of(text: str) -> int:
-    """The number below 2^64 that a host knows a place or an owner by."""
-    return int.from_bytes(hashlib.blake2b(text.encode(), digest_size=8, key=KEY).digest(), "big")
+def number_of(text: str, key: bytes = b"") -> int:
+    """The number below 2^64 that a host knows a text by."""
+    return int.from_bytes(hashlib.blake2b(text.encode(), digest_size=8, key=key).digest(), "big")
+
+
+def owner_number(name: str) -> int:
+    """The number that a host knows an owner by. A record has it, so it has no key and is the same at each start. Another name of the number of one
+    that is there takes 2^64 tries to find."""
+    return number_of(name)
 
 
 class Taker(Protocol):

@@ -21,8 +21,8 @@ class Hub:
         self.has_begun = False
 
     def place(self) -> Place:
-        """A carrier for one more member. No name that a broker knows has a slash."""
-        return Place(self, Origin("here/%d" % next(self.numbers), is_kept=True))
+        """A carrier for one more member. No name that a broker knows has a slash. At the next start another member may have this one."""
+        return Place(self, Origin("here/%d" % next(self.numbers), is_kept=True, lasts=False))
 
     def add(self, origin: Origin, inbox: Taker) -> None:
         with self.changed:

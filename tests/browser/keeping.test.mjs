@@ -8,7 +8,7 @@ import { heldOf, nameIn } from '../../web/member/held.js';
 import { HostEnded, Program } from '../../web/member/host.js';
 import { Inbox } from '../../web/member/inbox.js';
 import { Member } from '../../web/member/member.js';
-import { numberOf } from '../../web/member/origins.js';
+import { numberOf, pointLine, takePoint } from '../../web/member/origins.js';
 import { FIRST_LINE, Record, actsOf } from '../../web/member/record.js';
 import { drawopOf } from '../../web/member/views.js';
 import { check } from '../check.mjs';
@@ -235,10 +235,10 @@ async function testBefore(program) {
 // ---- what comes in
 
 /** A member that nothing runs: what comes in is handed to it one by one. */
-async function quietOf(program, { mayHaveDrawn = false, strangers = null, here = null } = {}) {
+async function quietOf(program, { mayHaveDrawn = false, strangers = null, here = null } = {}, record = new Record(null, 'here', 1)) {
   const sent = [], transport = { where: 'here', state: '', here, strangers, end: () => {}, send: (bytes) => sent.push(readDatagram(bytes)) };
   const options = { notice: '', teach: false, start: { ...START, cells: 1_000, mayHaveDrawn } };
-  const member = new Member(program, new Record(null, 'here', 1), 1, new Inbox(), transport, options, (name, news) => { member[`told ${name}`] = news; });
+  const member = new Member(program, record, 1, new Inbox(), transport, options, (name, news) => { member[`told ${name}`] = news; });
   await member.open();
   return Object.assign(member, { isReady: !mayHaveDrawn, sent });
 }
@@ -342,6 +342,27 @@ async function testNames(program) {
   check('people hear of it', member.alarms.told(), [2, 1].map((number) => `somebody else speaks under the number of member ${number}: that is not heeded`));
   check('he goes on under his number', await toldBy(program, member, bob, `session-message 2 8 1/1 1@${moment}+0`), [null]);
   check('what he drew may come of anybody', await toldBy(program, member, eve, ...drawings(2, 1, 1), `session-message 3 5 1/1 1@${moment}+0`, ...drawings(2, 2, 2)), [null, null, null]);
+}
+
+/** Who answered under a number before a start owns it after that, also if another answers first: the record names him, by a number that he has at each start. */
+async function testOwners(program) {
+  const record = new Record(null, 'here', 1), network = { here: 'anna' }, member = await quietOf(program, network, record);
+  const [bob, eve] = ['bob', 'eve'].map((name) => ({ place: `wb/${name}`, owner: name })), [, , moment] = (await reportOf(member)).split(' ');
+  check('he answers, and once more', await toldBy(program, member, bob, ...[5, 6].map((sent) => `session-message 2 ${sent} 1/1 1@${moment}+0`)), [null, null]);
+  const owners = (await record.lines()).filter((line) => line.startsWith('owner '));
+  check('that is recorded once', owners.map((line) => line.replace(/ \d+@/, ' ')), [`owner 2 ${numberOf('bob')}`]);
+  const point = (await record.lines()).find((line) => line.startsWith('# names '));
+  takePoint(['# names 7']);
+  check('a start of another record has other numbers', owners[0].endsWith(`@${numberOf('bob')}`), false);
+  const again = await quietOf(program, network, record), [, , later] = (await reportOf(again)).split(' ');
+  check('and one of this record the same', [pointLine(), owners[0].endsWith(`@${numberOf('bob')}`)], [point, true]);
+  const answers = [5, 6].map((sent) => `session-message 2 ${sent} 1/1 1@${later}+0`);
+  check('another who answers first does not speak under it', await toldBy(program, again, eve, ...answers), answers.map(() => 'under the number of another'));
+  check('he does', await toldBy(program, again, bob, ...answers), [null, null]);
+  const next = new Record(null, 'here', 3);
+  await again.board.renumber(3, next);
+  check('so it is under another number of ours', (await next.lines()).filter((line) => /^(?:owner|# names) /.test(line)), [point, ...owners]);
+  check('a record that is saved has no owners', /owner|names/.test((await again.people.record()).text), false);
 }
 
 // ---- a session
@@ -490,4 +511,4 @@ async function testForgedTwin(program) {
 }
 
 const program = new Program(await WebAssembly.compile(fs.readFileSync(file)), false);
-for (const each of [testOld, testLines, testBegun, testMarks, testClock, testDraw, testShowing, testNoRoom, testOneSync, testEnds, testRefused, testStarts, testBefore, testOwnMarks, testRoom, testPageInView, testTime, testNames, testSession, testStrangers, testTail, testTwins, testForgedTwin]) test(each.name.slice('test'.length), () => each(program));
+for (const each of [testOld, testLines, testBegun, testMarks, testClock, testDraw, testShowing, testNoRoom, testOneSync, testEnds, testRefused, testStarts, testBefore, testOwnMarks, testRoom, testPageInView, testTime, testNames, testOwners, testSession, testStrangers, testTail, testTwins, testForgedTwin]) test(each.name.slice('test'.length), () => each(program));

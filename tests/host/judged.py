@@ -94,9 +94,9 @@ class Judged:
 
     def came(self, now: int, origin: reference.Origin, datagram: Datagram) -> str:
         self.kept.check(now)
-        facts, strange = self.facts(now, datagram), dict(self.judge.strange)
+        facts, strange, before = self.facts(now, datagram), dict(self.judge.strange), self.owner_of(datagram)
         verdict = self.judge.judge(origin, judged(datagram), facts)
-        self.lines = self.freed(strange) + ([] if verdict.why else self.believed(now, datagram))
+        self.lines = self.freed(strange) + ([] if verdict.why else self.believed(now, datagram)) + self.owned(datagram, origin, before)
         block = self.does(now, lambda: self.kept.tick(now) if verdict.why else self.kept.came(now, datagram), self.given(now, origin))
         dropped = f"dropped {verdict.why}\n" if verdict.why else ""
         fetched = f"fetch {verdict.fetch.text} {facts.lacking}\n" if verdict.fetch else ""
@@ -131,8 +131,12 @@ class Judged:
         return self.tick(now)
 
     def held(self, line: str, datagram: Drawop | State | None) -> str:
-        """A line of the record: a drawop or a mark, or one that says nothing else."""
+        """A line of the record: a drawop or a mark, who owns a number, or one that says nothing else."""
         now = self.kept.host.now
+        if line.startswith("owner "):
+            number, place = line.split(" ")[1:]
+            self.judge.recall(int(number), reference.Origin(place, place.split("@")[1]))
+            return self.tick(now)
         if datagram is None:
             return self.tick(now) if line.startswith("tick ") else ""
         told: Datagram = datagram
@@ -189,6 +193,15 @@ class Judged:
             return []
         last = self.last_of_ours(page)
         return [f"page-state {datagram.sender} {paged(page)} {me}={high}" for source, high in datagram.marks if source == me and high > last]
+
+    def owner_of(self, datagram: Datagram) -> str | None:
+        """Who owns the number under which a report speaks."""
+        return self.judge.owner_of(datagram.sender) if isinstance(datagram, (Message, State)) else None
+
+    def owned(self, datagram: Datagram, origin: reference.Origin, before: str | None) -> list[str]:
+        """A number that had no owner has one by a report."""
+        has_owner = isinstance(datagram, (Message, State)) and before is None and self.owner_of(datagram) is not None
+        return [f"owner {judged(datagram).speaker} {origin.text}"] if has_owner else []
 
     # ---- questions
 

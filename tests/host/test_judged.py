@@ -26,6 +26,7 @@ STROKE = datagrams.line(0, 0, 4, 0, "*")
 LATER = TURN  # when something is due after the first report: the first turn
 NEAR = [asked_at(REPORT, word, 18_750) for word in (0, 1)]  # requests for what a member 10,000 away reports
 STARS = drawop(7, PAGE, 1, WALL, STROKE)
+OWNED = ["0@3", "1@4", "2@3"]  # origins that the network keeps
 
 
 def judge(listen: int = 0, cells: int = 1024, here: str = "-", strangers: str = "-") -> str:
@@ -121,6 +122,12 @@ MISTYPED = {
     "held datagram": "words",
     "held datagram 5742": "datagram 1",
     "held say hello": "word 1: unknown",
+    "held owner": "unknown",
+    "held owner 7": "words",
+    "held owner 7 5": "words",
+    "held owner 7 5@6 8": "words",
+    "held owner 7 5@x": "number",
+    "held owner 4294967296 5@6": "number",
     "fly": "unknown",
 }
 
@@ -281,6 +288,7 @@ class JudgedSession(Session):
             (f"say {own.words()}", own),
             (f"page-state 9 {paged(page)} {ME}={high}", State(9, page, [(ME, high)])),
             (f"tick {self.below(10**9)}", None),
+            (f"owner {self.random.choice(MEMBERS)} {self.random.choice(OWNED)}", None),
             self.random.choice([("# a comment", None), ("board 1 16 1 42", None), ("", None)]),
         ]
         line_, datagram = self.random.choice(lines)

@@ -17,7 +17,7 @@ OWN, FRESH, DRIFT = 256, 256 * SECOND, 4_096
 # the most origins of which the last report under our number is remembered that is not ours
 MOST_ALIENS = 8
 
-# An origin that answered us is known until it was silent for so long, and a number stays with its origin for so long.
+# An origin that answered us is known until it was silent for so long, and a number that has no owner stays with its origin for so long.
 SILENCE, PATIENCE = 600 * SECOND, 192 * SECOND
 
 # origins that are known, and numbers that were heard
@@ -178,6 +178,12 @@ class Judge:
         if len(self.strange) < self.most_strange:
             self.strange[name] = Origin("record")
 
+    def recall(self, number: int, origin: Origin) -> None:
+        """By the record, a number answered from there once. Whoever has answered under it since keeps it, and ours is ours."""
+        other = self.others.get(number)
+        if number != self.me and (other is None or other.answered is None):
+            self.put(number, Other(origin, 0, answered=0))
+
     def leave(self, origin: Origin) -> None:
         """The network says that who spoke from there is gone."""
         self.known.pop(origin, None)
@@ -200,7 +206,8 @@ class Judge:
     def is_bound_elsewhere(self, number: int, origin: Origin, now: int) -> bool:
         """Whether a number is that of a member that has answered us and speaks from another origin."""
         other = self.others.get(number)
-        return other is not None and other.origin != origin and other.answered is not None and now - other.at <= PATIENCE
+        is_there = other is not None and (now - other.at <= PATIENCE or other.origin.owner is not None)
+        return other is not None and other.origin != origin and other.answered is not None and is_there
 
     def has_number(self, origin: Origin) -> bool:
         return any(other.origin == origin for other in self.others.values())
@@ -301,13 +308,18 @@ class Judge:
         return Verdict(None, "mark" if not facts.listens and own > facts.top else None, self.fetch(datagram.speaker, facts))
 
     def hear(self, number: int, origin: Origin, now: int, is_answer: bool) -> None:
-        """A number speaks from there. Of too many, one that has not answered us goes first."""
-        before = self.others.pop(number, None)
+        """A number speaks from there."""
+        before = self.others.get(number)
         other = before if before is not None and before.origin == origin else Other(origin, now)
         other.at = now
         if is_answer:
             other.answered = now
             self.know(origin, now)
+        self.put(number, other)
+
+    def put(self, number: int, other: Other) -> None:
+        """The number is the last that is remembered. Of too many, one that has not answered us goes first."""
+        self.others.pop(number, None)
         self.others[number] = other
         if len(self.others) > MOST_OTHERS:
             unanswered = [each for each, one in self.others.items() if one.answered is None and each != number]

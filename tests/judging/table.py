@@ -73,6 +73,8 @@ class Player:
             judge.leave(origin_of(step["gone"]))
         elif "record" in step:
             judge.remember(name_of(step["record"]))
+        elif "owner" in step:
+            judge.recall(int(step["owner"]), origin_of(step["from"]))
         else:
             raise ValueError(step)
 

@@ -71,6 +71,8 @@ class Spoken:
                 return "%s %d %s" % (kind, now, self.origin(step[kind]))
         if "heard" in step:
             return "heard %d %d" % (now, step["heard"])
+        if "owner" in step:
+            return "owner %d %d %s" % (now, int(step["owner"]), self.origin(step["from"]))
         if "record" in step:
             return "record %d %s" % (now, numbers_of(step["record"]))
         if "pages" in step:

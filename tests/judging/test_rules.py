@@ -35,8 +35,8 @@ RULES = [
     Rule("no stream is taken of who has not answered", "if other.answered is None or facts.lacking", "if facts.lacking", "a stream is taken of members alone"),
     Rule("nor from where a forged report came", "if not is_answer and self.is_bound_elsewhere(", "if False and self.is_bound_elsewhere(", "a stream is taken of members alone"),
     # members and strangers
-    Rule("reports vouch for nobody", "        self.others[number] = other\n",
-         "        self.others[number] = other\n        self.strange = {} if self.is_known(origin, now) else self.strange\n", "a stranger is not vouched for"),
+    Rule("reports vouch for nobody", "        self.put(number, other)\n",
+         "        self.put(number, other)\n        self.strange = {} if self.is_known(origin, now) else self.strange\n", "a stranger is not vouched for"),
     Rule("an echo is held no longer than it is ago", " and held <= ago + ago // DRIFT", "", "an echo was held no longer than it is ago, and one part in 4,096 of that"),
     Rule("but for what a clock gains", "ago + ago // DRIFT", "ago", "who holds an echo for 96 s by a clock that gains 20 ms meanwhile answers, a millisecond away"),
     Rule("an answer makes known", "        self.known[origin] = now\n        if len", "        if len", "two members alone"),
@@ -83,6 +83,11 @@ RULES = [
     Rule("a number is its owner's", "return None not in (owner, origin.owner) and owner != origin.owner", "return False", "names at a broker"),
     Rule("ours is ours", "return self.here if number == self.me else", "return None if number == self.me else", "names at a broker"),
     Rule("who claims a number does not own it", "if other is not None and other.answered is not None else None", "if other is not None else None", "whoever claims a number at a broker keeps it from nobody"),
+    Rule("an owner that was silent keeps its number", " or other.origin.owner is not None)", ")", "an owner that was silent keeps its number, also while it claims that from elsewhere"),
+    Rule("an owner outlives a start", "            self.put(number, Other(origin, 0, answered=0))\n", "            pass\n", "an owner that the record names is not forgotten over a start"),
+    Rule("unless somebody has answered since", "and (other is None or other.answered is None):", "and number:", "whoever answers keeps a number against what the record says later, and who only claims it does not"),
+    Rule("a claim is no answer", "and (other is None or other.answered is None):", "and other is None:", "whoever answers keeps a number against what the record says later, and who only claims it does not"),
+    Rule("and a record gives nobody ours", "if number != self.me and (other", "if (other", "a record gives nobody our number, and of too many owners the first goes"),
     Rule("and drawops are repairs there", "not is_known and origin.owner is None and self", "not is_known and self", "no drawing is dropped at a broker since another owner answered under its number"),
     Rule("who has gone leaves its numbers", "for number, other in self.others.items() if other.origin != origin}", "for number, other in self.others.items()}", "a name that has gone leaves its numbers"),
 ]

@@ -54,7 +54,7 @@ class Walk:
             return {"now": self.now, "sent": True}
         return {"now": self.now, **self.random.choice([
             {"add": "drawing", "held": 61}, {"echo": True}, {"time": True}, {"strange": True}, {"known": self.random.choice(ORIGINS)},
-            {"gone": self.random.choice(ORIGINS)}, {"wall": WALL + self.now}])}
+            {"gone": self.random.choice(ORIGINS)}, {"wall": WALL + self.now}, {"owner": self.number(), "from": self.random.choice(ORIGINS)}])}
 
     def case(self, name: str) -> Dict[str, Any]:
         made = case(name, cells=64, here=self.random.choice([None, "anna"]))

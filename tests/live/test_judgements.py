@@ -5,6 +5,7 @@ import os
 import subprocess
 from typing import List
 
+from live.board import owners_in
 from live.held import held_of
 from live.record import Act
 from ..facts import Facts
@@ -35,6 +36,14 @@ def test_record(facts: Facts) -> None:
     facts("what is a stranger's", made.strange, {(9, (1, 1), 1), (9, (1, 1), 3)})
     facts("what is held", made.datagrams[:3], digits)
     facts("the host gets what the record has", made.lines, acts[1:])
+
+
+def test_owners(facts: Facts) -> None:
+    """Who owns numbers a host gets beside what is held, in the order of the record."""
+    owners = ["owner 9 5@6", "owner 8 7@18446744073709551615", "owner 9 7@8"]
+    made = held_of("", map(Act, ["board 7 100 1 42", "tick 5", *owners]))
+    facts("each line", (made.owners, made.lines, made.datagrams), (owners, [], []))
+    facts("of each number the first holds", owners_in(owners), {"9": owners[0], "8": owners[1]})
 
 
 def test_moment(facts: Facts) -> None:

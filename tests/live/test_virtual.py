@@ -17,7 +17,7 @@ from typing import Any, Callable, Dict, List, NamedTuple, Optional, Tuple
 from unittest import mock
 
 from live.board import LISTENING
-from live.carriers.carrier import Origin
+from live.carriers.carrier import Origin, owner_number
 from live.clock import SECOND
 from live.events import Events
 from live.heard import PATIENCE
@@ -427,6 +427,49 @@ def asked_ahead(hours: int = 30) -> Tuple[int, "Counter[str]"]:
         return late.sent["request"] - before, Counter(late.judging.dropped)
 
 
+class Owned(NamedTuple):
+    """The owners that a record names before a start, after it, and under a new number; whether who answered first under the number of one was taken for it,
+    and how often it was dropped; and whether the owner was known again."""
+
+    before: List[str]
+    after: List[str]
+    renumbered: List[str]
+    is_taken: bool
+    dropped: int
+    is_known: bool
+
+
+def owners_of(path: Path) -> List[str]:
+    return [line for line in path.read_text().split("\n") if line.startswith("owner ")]
+
+
+def over_a_start(seed: int) -> Owned:
+    """At a network that keeps names a member starts again, and somebody answers it under another's number before that one is back. Places have other numbers
+    after the start, as in another process. A name that does not last is that of another member of the same program."""
+    with tempfile.TemporaryDirectory() as folder, World(seed) as world:
+        path, other = Path(folder) / "a.wb", Path(folder) / "b.wb"
+        first, bob, guest = world.join(1, str(path)), world.join(2), world.join(3)
+        first.origin, bob.origin, guest.origin = Origin("anna", is_kept=True), Origin("bob", is_kept=True), Origin("here/3", is_kept=True, lasts=False)
+        world.run(40)
+        before = owners_of(path)
+        for member in (first, bob, guest):
+            world.members.remove(member)
+            member.end()
+        with mock.patch("live.carriers.carrier.KEY", bytes(16)):
+            again, mallory = world.join(1, str(path)), world.join(2)
+            again.origin, mallory.origin = first.origin, Origin("mallory", is_kept=True)
+            world.run(40)
+            is_taken, dropped = again.knows(mallory), again.judging.dropped[WHYS["speaks"]]
+            world.members.remove(mallory)
+            mallory.end()
+            back = world.join(2)
+            back.origin = bob.origin
+            world.run(40)
+            after, is_known = owners_of(path), again.knows(back)
+            again.member.board.renumber(4, str(other), [])
+        return Owned(before, after, owners_of(other), is_taken, dropped, is_known)
+
+
 def tell(count: int, joined: Joined) -> None:
     known = ", ".join("%d s: %.0f %%" % (second, 100 * part) for second, part in joined.pairs.items())
     print("%d members join at once: pairs that know each other after %s; in 30 s %d requests and %d drawings and repairs for %d drawings; all came after %s s" % (
@@ -495,6 +538,14 @@ def test_crash(facts: Facts) -> None:
     """What a crash lost of ours a member gives back, once we have listened. Nobody has our number then, and it goes on above."""
     for seed in (1, 2, 3):
         facts("what was lost is there again, and the next drawing is the fourth", after_a_crash(seed), Restored(3, False, "4"))
+
+
+def test_owners(facts: Facts) -> None:
+    owned = over_a_start(6)
+    facts("who answered under a number is recorded", [(line.split(" ")[1], line.partition("@")[2]) for line in owned.before], [("2", "%d" % owner_number("bob"))])
+    facts("once, and also under a new number of ours", (owned.after, owned.renumbered), (owned.before, owned.before))
+    facts("whoever answers first under it after a start is dropped", (owned.is_taken, owned.dropped > 3), (False, True))
+    facts("and its owner is known again", owned.is_known, True)
 
 
 def test_departed(facts: Facts) -> None:

@@ -3,7 +3,7 @@
 import { FEW } from './constants.js';
 import { drawopIn, heldOf, linesOfOthers, nameIn } from './held.js';
 import { HostEnded } from './host.js';
-import { numberOf, numbersOf } from './origins.js';
+import { numberOf, numbersOf, pointLine, takePoint } from './origins.js';
 import { FIRST_LINE, actsOf } from './record.js';
 import { drawopOf, pageWords } from './views.js';
 
@@ -82,7 +82,9 @@ export class Board {
   /** Starts the host: with what the record has, or with a new board.
    * @param {number} me */
   async open(me) {
-    if (!actsOf(await this.record.lines()).length) this.record.add(FIRST_LINE, boardLine(me, this.options.cells));
+    const lines = await this.record.lines();
+    if (!actsOf(lines).length) this.record.add(FIRST_LINE, boardLine(me, this.options.cells));
+    if (!takePoint(lines)) this.record.add(pointLine());
     this.record.note('started');
     await this.start(this.options.mayHaveDrawn ? LISTENING : 0, chance() / LEAD_PART);
     // above every moment of the record
@@ -275,7 +277,7 @@ export class Board {
    * @param {number} me @param {import('./record.js').Record} record */
   async renumber(me, record) {
     const old = this.record, lines = await linesOfOthers(this.program, heldOf(actsOf(await old.lines())));
-    if (!await record.keep([FIRST_LINE, boardLine(me, this.cells), `tick ${this.moment}`, ...lines])) throw new NoRoom(record.fault);
+    if (!await record.keep([FIRST_LINE, boardLine(me, this.cells), pointLine(), `tick ${this.moment}`, ...lines])) throw new NoRoom(record.fault);
     this.record = record;
     this.readyAt = this.moment;
     await this.beginAgain();

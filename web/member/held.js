@@ -17,10 +17,10 @@ export function heldOf(acts) {
   return { board, moment: rest.reduce((latest, line) => (line.startsWith('tick ') ? Math.max(latest, Number(line.slice(5))) : latest), 0), lines };
 }
 
-/** What a judged host takes of a line: a drawop, or a mark of our number.
+/** What a judged host takes of a line: a drawop, who owns a number, or a mark of our number.
  * @param {string} line @param {number} me */
 function heldIn(line, me) {
-  if (/^(?:say )?draw /.test(line)) return line;
+  if (/^(?:(?:say )?draw|owner) /.test(line)) return line;
   const [, digits] = HEX.exec(line) ?? [];
   if (digits?.slice(KIND_AT, KIND_AT + 2) === DRAWOP) return `datagram ${digits}`; // the host reads it
   if (digits !== undefined) return markIn(readDatagram(unhex(digits)), me);

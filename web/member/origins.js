@@ -3,19 +3,34 @@
 /** Where a datagram came from: two that differ are two origins. It has an owner if the network lets nobody else send from there.
  * @typedef {{ place: string, owner: string | null }} Origin */
 
-/** A prime, and a number below 2^61 that this start alone knows. Of all these numbers n at most give two names of n letters one number. */
-const PRIME = 2n ** 61n - 1n, KEY = BigInt.asUintN(61, crypto.getRandomValues(new BigUint64Array(1))[0]);
+/** A prime, and a line of a record that says at which point names become numbers. */
+const PRIME = 2n ** 61n - 1n, POINT = /^# names ([0-9]{1,19})$/;
+
+/** A number below 2^61 that nobody guesses. Of all these numbers n at most give two names of n letters one number. */
+let point = BigInt.asUintN(61, crypto.getRandomValues(new BigUint64Array(1))[0]);
 
 /** Numbers that are remembered, since most datagrams come from few places.
  * @type {Map<string, bigint>} */
 const numbers = new Map(), MOST_REMEMBERED = 1_024;
+
+/** The line of a record that has the point. */
+export const pointLine = () => `# names ${point}`;
+
+/** Takes the point that a record has, so that an owner has the same number at each start. Whether it has one.
+ * @param {string[]} lines */
+export function takePoint(lines) {
+  const told = lines.flatMap((line) => POINT.exec(line)?.[1] ?? []);
+  if (told.length) point = BigInt(told[0]) % PRIME;
+  numbers.clear();
+  return told.length > 0;
+}
 
 /** The number that a host knows a place or an owner by: the value of a polynomial that has the letters of its name.
  * @param {string} name */
 export function numberOf(name) {
   let number = numbers.get(name) ?? 1n;
   if (number !== 1n) return number;
-  for (const letter of name) number = (number * KEY + BigInt(letter.codePointAt(0) ?? 0)) % PRIME;
+  for (const letter of name) number = (number * point + BigInt(letter.codePointAt(0) ?? 0)) % PRIME;
   if (numbers.size >= MOST_REMEMBERED) numbers.clear();
   numbers.set(name, number);
   return number;

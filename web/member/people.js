@@ -16,6 +16,9 @@ const MOST_PAGE = 2 ** 32 - 1;
 /** The page of names, titles and the chat; what is drawn elsewhere leaves it, and deletes and restores, one cell in this many. */
 const WORDS = '0/0', KEPT = 16;
 
+/** Lines of the record that say who owns numbers, and at which point names are numbers. */
+const OWNERS = /^(?:owner|# names) /;
+
 /** Why nothing is drawn. */
 const TWIN = 'another member has our number: take a new one';
 
@@ -132,8 +135,9 @@ export class People {
     return { ...worse };
   }
 
-  /** The record, as a text. */
+  /** The record, as a text. Who owns numbers is left out: no other program knows owners by these. */
   async record() {
-    return { text: (await this.member.board.record.lines()).map((line) => `${line}\n`).join('') };
+    const lines = (await this.member.board.record.lines()).filter((line) => !OWNERS.test(line));
+    return { text: lines.map((line) => `${line}\n`).join('') };
   }
 }

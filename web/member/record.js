@@ -1,7 +1,7 @@
 /** The record of a member in the browser's own database: the lines that made its board, as `live/record.py` has them in a file.
  *
- * It has the line of the board, each drawop that was new, with the moment at which it came, and marks of the member's own number that were
- * heard at its start. Questions, what was refused, and what others asked for change nothing that is held: they are not there. */
+ * It has the line of the board, each drawop that was new, with the moment at which it came, marks of the member's own number that were heard at
+ * its start, and who owns numbers where the network keeps names. Questions, what was refused, and what others asked for change nothing that is held: they are not there. */
 
 /** A member of a session, kept: its number is not taken again while its record is there.
  * @typedef {{ session: string, me: number, at: number }} Kept */

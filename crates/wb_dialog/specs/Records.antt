@@ -1,5 +1,5 @@
 -- What a line of the record says.
-use Rattle.std.specs.Prelude.{◌≡◌, ℕ, Bool, true, false, List, [], ◌∷◌, Option, Some, None, Result, Ok, Err, codes}
+use Rattle.std.specs.Prelude.{◌≡◌, ℕ, ◌-◌, ◌^◌, Bool, true, false, List, [], ◌∷◌, Option, Some, None, Result, Ok, Err, codes}
 use Rattle.wb_names.specs.Values.{DrawopValue}
 use Rattle.wb_codec.specs.declared.datagram.Datagram.{Datagram}
 use Rattle.wb_codec.specs.declared.datagram.Datagram.TheVariants.{Draw, PageState}
@@ -14,8 +14,10 @@ use Rattle.wb_commands.specs.declared.fault.LineFault.{LineFault}
 use Rattle.wb_commands.specs.declared.fault.LineFault.TheVariants as faults
 use Rattle.wb_commands.specs.declared.fault.Untaken.{Untaken}
 use Rattle.wb_commands.specs.declared.fault.Untaken.TheVariants as untaken
-use Rattle.wb_commands.specs.Parsing.{◌>>=◌, script_line_of}
+use Rattle.wb_commands.specs.Parsing.{◌>>=◌, number, or_fault, script_line_of, two_of}
+use Rattle.wb_lines.specs.Words.{words}
 use Rattle.wb_dialog.specs.Lines.{part_behind}
+use Rattle.wb_dialog.specs.Words.{origin}
 use Rattle.wb_judging.specs.declared.record.RecordLine.{RecordLine}
 use Rattle.wb_judging.specs.declared.record.RecordLine.TheVariants as records
 
@@ -52,13 +54,27 @@ abbrev pub said : Result Datagram WrongWord → Result (Option RecordLine) LineF
 said (Ok v) = drawn v >>= λ line. Ok (Some line)
 said (Err wrong) = Err (faults.Word wrong)
 
-abbrev pub record_by : List ℕ → Option (List ℕ) → Result (Option RecordLine) LineFault
-record_by line None = script_line_of line >>= recorded (begins_datagram line)
-record_by line (Some words) = said (reading_words words)
+-- who owns a number: an origin that has no owner says none
+abbrev pub owned : ℕ → ℕ → Option ℕ → Result RecordLine LineFault
+owned number' place None = Err faults.Words
+owned number' place (Some owner) = Ok (records.Owner number' place owner)
+
+unfoldable pub owner_line : List (List ℕ) → Result RecordLine LineFault
+owner_line arguments = do
+  words' ← or_fault faults.Words (two_of arguments)
+  number' ← number 0 (2 ^ 32 - 1) words'.0
+  origin' ← origin words'.1
+  owned number' origin'.place origin'.owner
+
+-- by what follows `say`, and what follows `owner`
+abbrev pub record_by : List ℕ → Option (List ℕ) → Option (List ℕ) → Result (Option RecordLine) LineFault
+record_by line (Some words') owner = said (reading_words words')
+record_by line None (Some words') = owner_line (words words') >>= λ owner. Ok (Some owner)
+record_by line None None = script_line_of line >>= recorded (begins_datagram line)
 
 -- the line, which stands without its end
 abbrev pub record_of : List ℕ → Result (Option RecordLine) LineFault
-record_of line = record_by line (part_behind (codes "say") (split_once 32 line))
+record_of line = let parts = split_once 32 line in record_by line (part_behind (codes "say") parts) (part_behind (codes "owner") parts)
 
 -- what a line says, or its first fault; or an allocation failed
 abbrev pub Reads : {X : Type 0} → Result X Untaken → Result X LineFault → Type 0

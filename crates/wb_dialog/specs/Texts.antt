@@ -24,7 +24,7 @@ use Rattle.wb_judging.specs.declared.event.Fate.{Fate}
 use Rattle.wb_judging.specs.declared.event.Fate.TheVariants as fates
 use Rattle.wb_judging.specs.declared.record.RecordLine.{RecordLine}
 use Rattle.wb_judging.specs.declared.since.ShownAt.{ShownAt}
-use Rattle.wb_judging.specs.declared.record.RecordLine.TheVariants.{Known, Mark, Said, Strange, Tick}
+use Rattle.wb_judging.specs.declared.record.RecordLine.TheVariants.{Known, Mark, Owner, Said, Strange, Tick}
 
 -- ---- lines of the record, without their ends
 
@@ -46,12 +46,17 @@ known_text d = codes "datagram " ++ digits_of (Draw d)
 abbrev pub mark_text : ℕ → PageId → MarkValue → List ℕ
 mark_text speaker page mark = spelled (PageState speaker page (mark ∷ []))
 
+-- `owner NUMBER PLACE@OWNER`
+abbrev pub owner_text : ℕ → ℕ → ℕ → List ℕ
+owner_text number place owner = codes "owner " ++ (decimal number ++ (codes " " ++ (decimal place ++ (codes "@" ++ decimal owner))))
+
 abbrev pub record_text : RecordLine → List ℕ
 record_text (Tick now) = tick_text now
 record_text (Said d) = said_text d
 record_text (Known d) = known_text d
 record_text (Strange d) = strange_text d
 record_text (Mark speaker page mark) = mark_text speaker page mark
+record_text (Owner number place owner) = owner_text number place owner
 
 -- ---- events
 

@@ -2,7 +2,7 @@
 ghost use Rattle.std.specs.Prelude.{◌≡◌, IfOk};
 ghost use Rattle.std.specs.String.{string_bytes};
 ghost use Rattle.wb_words.specs.Spelling.{mark_word, page_word};
-ghost use Rattle.wb_dialog.specs.Texts.{known_text, mark_text, record_text, said_text, strange_text, tick_text};
+ghost use Rattle.wb_dialog.specs.Texts.{known_text, mark_text, owner_text, record_text, said_text, strange_text, tick_text};
 
 use std::alloc::{AllocError, Global};
 use wb_codec::{Datagram, write};
@@ -69,6 +69,13 @@ fn mark_text(alloc: Global, speaker: u32, page: PageId, mark: Mark) -> Result<St
     format!(in alloc; "page-state {speaker} {page} {mark}")
 }
 
+/// Who owns a number: `owner NUMBER PLACE@OWNER`.
+fn owner_text(alloc: Global, number: u32, place: u64, owner: u64) -> Result<String, AllocError>
+    ensures { IfOk result (λ text. string_bytes text ≡ owner_text number place owner) }
+{
+    format!(in alloc; "owner {number} {place}@{owner}")
+}
+
 /// A line of the record, as `record` prints it and `held` reads it.
 pub fn write_record(alloc: Global, line: &RecordLine) -> Result<Vec<u8>, AllocError>
     ensures { IfOk result (λ text. text.items ≡ record_text line.now) }
@@ -83,5 +90,10 @@ pub fn write_record(alloc: Global, line: &RecordLine) -> Result<Vec<u8>, AllocEr
             page,
             mark,
         } => Ok(mark_text(alloc, *speaker, *page, *mark)?.into_bytes()),
+        RecordLine::Owner {
+            number,
+            place,
+            owner,
+        } => Ok(owner_text(alloc, *number, *place, *owner)?.into_bytes()),
     }
 }

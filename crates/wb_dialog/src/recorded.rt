@@ -1,12 +1,14 @@
 //! What a line of the record says.
 ghost use Rattle.std.specs.Prelude.{◌≡◌};
 ghost use Rattle.wb_words.specs.Reading.{reading as reading_words};
-ghost use Rattle.wb_dialog.specs.Records.{Reads, drawn, given, mark_of, record_of, recorded, said};
+ghost use Rattle.wb_lines.specs.Words.{words};
+ghost use Rattle.wb_dialog.specs.Records.{Reads, drawn, given, mark_of, owned, owner_line, record_of, recorded, said};
 
-use crate::words::behind;
+use crate::words::{behind, origin};
 use std::alloc::Global;
 use wb_codec::Datagram;
-use wb_commands::{Command, LineFault, Untaken, parse_line};
+use wb_commands::{Command, LineFault, Untaken, parse_line, two_words, u32_word};
+use wb_judge::Origin;
 use wb_judging::RecordLine;
 use wb_member::Call;
 use wb_names::Drawop;
@@ -84,6 +86,31 @@ fn said(alloc: Global, words: &[u8]) -> Result<Option<RecordLine>, Untaken>
     }
 }
 
+/// The owner of a number. An origin that has no owner says none.
+fn owned(number: u32, origin: Origin) -> Result<RecordLine, LineFault>
+    ensures { result ≡ owned number origin.place origin.owner }
+{
+    match origin.owner {
+        None => Err(LineFault::Words),
+        Some(owner) => Ok(RecordLine::Owner {
+            number,
+            place: origin.place,
+            owner,
+        }),
+    }
+}
+
+/// Who owns a number, by the number and an origin.
+#[tactic(auto, unfolding(crate::specs::Records::owner_line))]
+fn owner_line(rest: &[u8]) -> Result<RecordLine, LineFault>
+    ensures { result ≡ owner_line (words rest.now) }
+{
+    let (number, place) = two_words(rest).ok_or(LineFault::Words)?;
+    let number = u32_word(number, 0, u32::MAX)?;
+    let origin = origin(place)?;
+    owned(number, origin)
+}
+
 /// What a line of the record says, which stands without its end. None if it changes nothing: a
 /// comment, the line of the board, and a question of an older record.
 pub(crate) fn read_record(alloc: Global, line: &[u8]) -> Result<Option<RecordLine>, Untaken>
@@ -91,6 +118,9 @@ pub(crate) fn read_record(alloc: Global, line: &[u8]) -> Result<Option<RecordLin
 {
     if let Some(words) = behind(line, b"say") {
         return said(alloc, words);
+    }
+    if let Some(words) = behind(line, b"owner") {
+        return Ok(Some(owner_line(words)?));
     }
     let command = parse_line(alloc, line)?;
     Ok(recorded(&command, begins_datagram(line))?)

@@ -8,12 +8,12 @@ use Rattle.std.specs.Prelude.{Option, Some, is_none, nat_eq, nat_lt, not, unwrap
 use Rattle.wb_names.specs.Values.{DrawopValue}
 use Rattle.wb_codec.specs.declared.datagram.Datagram.{Datagram}
 use Rattle.wb_codec.specs.declared.datagram.Datagram.TheVariants.{AskPages, Draw, PageState, Request, Session}
-use Rattle.wb_judge.specs.Judge.{Judge, after_taking, knows}
+use Rattle.wb_judge.specs.Judge.{Judge, after_recall, after_taking, knows}
 use Rattle.wb_judge.specs.Judging.{after_coming, after_judging, after_of}
 use Rattle.wb_judge.specs.Known.{is_known, known_from, left}
-use Rattle.wb_judge.specs.Laws.{Comes, IsBounded, Leaves, Remembers, Reports, SharesStay, StateIsBounded, Step, Tells, after_datagram, after_step, after_steps, is_answer, is_taken, speaker_in}
+use Rattle.wb_judge.specs.Laws.{Comes, IsBounded, Leaves, Recalls, Remembers, Reports, SharesStay, StateIsBounded, Step, Tells, after_datagram, after_step, after_steps, is_answer, is_taken, speaker_in}
 use Rattle.wb_judge.specs.Origins.{same_origin}
-use Rattle.wb_judge.specs.Others.{first_to_go, other_with, with_place_for, without}
+use Rattle.wb_judge.specs.Others.{answered_once, first_to_go, other_of, other_with, recalled, was_answered, with_place_for, without}
 use Rattle.wb_judge.specs.Shares.{Shares}
 use Rattle.wb_judge.specs.Strange.{has_name, is_given_by, with_given, without_origin}
 use Rattle.wb_judge.specs.declared.facts.Facts.{Facts}
@@ -57,6 +57,14 @@ few_with x others few = by (without x.number others) (omega (arith, filter_lengt
 
   by : (ys : List Other) → length ys ≤ MOST_OTHERS → length (with_place_for ys ++ x ∷ []) ≤ MOST_OTHERS
   by ys fewer = choose (nat_lt (length ys) MOST_OTHERS) ys refl fewer
+
+few_recalled : (number : ℕ) (o : Origin) (j : Judge) → length j.others ≤ MOST_OTHERS → length (after_recall number o j).others ≤ MOST_OTHERS
+unfolding recalled
+few_recalled number o j few = by (nat_eq number j.me) (was_answered (other_of number j.others)) where
+  by : (b c : Bool) → length (cond b j.others (cond c j.others (other_with (answered_once number o) j.others))) ≤ MOST_OTHERS
+  by true c = few
+  by false true = few
+  by false false = few_with (answered_once number o) j.others few
 
 -- ---- the share of strangers
 
@@ -166,6 +174,7 @@ step (Leaves o) j = record {
   most = refl;
 }
 step (Remembers name) j = given (record { name = name; origin = None }) j
+step (Recalls number o) j = record { bounded = λ b. record { own = b.own; known = b.known; others = few_recalled number o j b.others; strange = b.strange; told = b.told }; most = refl }
 
 all_steps : (steps : List Step) (j : Judge) → Leads j (after_steps steps j)
 all_steps [] j = whole j

@@ -18,6 +18,7 @@ pub mod Repairing
 pub mod MembersHeard
 pub mod MembersStay
 pub mod NumbersBeside
+pub mod Found
 pub mod Room
 pub mod Owners
 pub mod Newcomers

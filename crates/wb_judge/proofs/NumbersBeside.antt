@@ -62,7 +62,7 @@ place_there o s others few e = ap (λ (b : Bool). cond b (without s others) (rem
   room less = grind (arith, nat_tests)
 
 -- who is looked for is the one that is heard, or another as before
-found_after : (n : ℕ) (x : Other) (others : List Other) → find (has n) (without x.number others ++ x ∷ []) ≡ cond (has n x) (Some x) (other_of n others)
+pub found_after : (n : ℕ) (x : Other) (others : List Other) → find (has n) (without x.number others ++ x ∷ []) ≡ cond (has n x) (Some x) (other_of n others)
 found_after n x others = find-append (has n) (without x.number others) (x ∷ []) ∙ by (nat_eq x.number n) refl where
   is_other : nat_eq x.number n ≡ false → (y : Other) → has n y ≡ true → not (nat_eq y.number x.number) ≡ true
   is_other apart y at = grind (arith, nat_tests)

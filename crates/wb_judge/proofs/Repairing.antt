@@ -11,7 +11,7 @@ use Rattle.wb_judge.specs.Answers.{answers}
 use Rattle.wb_judge.specs.Buckets.{has_room, paid_after}
 use Rattle.wb_judge.specs.Judge.{Judge, after_taking, is_firm, is_forged, knows}
 use Rattle.wb_judge.specs.Judging.{after_admitted, after_admitting, after_answer, after_coming, after_fetching, after_hearing, after_held, after_judging, after_own, after_question, after_repair, after_report, after_request, after_said, after_stranger, held_verdict, is_admitted, is_elsewhere, is_fetched, is_forged_mark, is_repaired, is_twin, missed_verdict, question_verdict, request_verdict, speaking, stranger_verdict, verdict, with_payment}
-use Rattle.wb_judge.specs.Laws.{AreFrom, Comes, Leaves, Remembers, RepairsAreFew, Reports, Step, StrangersAreFew, Tells, after_step, how_many, is_asked_in, is_repaired_in, is_taken, moments_in, moments_of}
+use Rattle.wb_judge.specs.Laws.{AreFrom, Comes, Leaves, Recalls, Remembers, RepairsAreFew, Reports, Step, StrangersAreFew, Tells, after_step, how_many, is_asked_in, is_repaired_in, is_taken, moments_in, moments_of}
 use Rattle.wb_judge.specs.Reports.{report_of}
 use Rattle.wb_judge.specs.Strange.{is_there, with_given}
 use Rattle.wb_judge.specs.Verdicts.{dropped, taken, warned}
@@ -284,6 +284,7 @@ all_moved pays ahead pause some comes other start end (s ∷ steps) j from = by 
   by (Tells clock) from more = stood (Tells clock) refl from more
   by (Leaves o) from more = stood (Leaves o) refl from more
   by (Remembers name) from more = stood (Remembers name) refl from more
+  by (Recalls number o) from more = stood (Recalls number o) refl from more
 
 ended : (ahead pause count paid start end : ℕ) → start ≤ end → Within ahead pause count paid start end → count * pause ≤ ahead + pause + (end - start)
 ended ahead pause count paid start end later (inl none) = rw none (omega arith)
@@ -295,6 +296,7 @@ other_repairs (Reports sent) j e = (refl, refl)
 other_repairs (Tells clock) j e = (refl, refl)
 other_repairs (Leaves o) j e = (refl, refl)
 other_repairs (Remembers name) j e = (refl, refl)
+other_repairs (Recalls number o) j e = (refl, refl)
 
 other_asked : (s : Step) (j : Judge) → moments_in s ≡ [] → (is_asked_in s j ≡ false) × ((after_step s j).asked ≡ j.asked)
 other_asked (Comes o v f) j e = cc
@@ -302,6 +304,7 @@ other_asked (Reports sent) j e = (refl, refl)
 other_asked (Tells clock) j e = (refl, refl)
 other_asked (Leaves o) j e = (refl, refl)
 other_asked (Remembers name) j e = (refl, refl)
+other_asked (Recalls number o) j e = (refl, refl)
 
 pub repairs_are_few : RepairsAreFew
 repairs_are_few start end steps j from =

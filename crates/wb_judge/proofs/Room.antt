@@ -5,7 +5,7 @@ use Rattle.std.proofs.Math.Nat.{add-mul}
 use Rattle.wb_judge.specs.Buckets.{has_room}
 use Rattle.wb_judge.specs.Judge.{Judge}
 use Rattle.wb_judge.specs.Judging.{is_repaired}
-use Rattle.wb_judge.specs.Laws.{AreFrom, Comes, Leaves, Remembers, Reports, Step, Tells, after_step, after_steps, how_many, is_repaired_in, moments_of}
+use Rattle.wb_judge.specs.Laws.{AreFrom, Comes, Leaves, Recalls, Remembers, Reports, Step, Tells, after_step, after_steps, how_many, is_repaired_in, moments_of}
 use Rattle.wb_judge.specs.Members.{RequestsArePaidFor, RequestsHaveRoom}
 use Rattle.wb_judge.specs.Strange.{is_there}
 use Rattle.wb_judge.specs.declared.limits.TheConstants.{REPAIRS_AHEAD, REPAIRS_OF_ONE, REPAIR_PAUSE}
@@ -42,6 +42,7 @@ grows m start end (Reports sent ∷ steps) j from few late = none_more m (how_ma
 grows m start end (Tells clock ∷ steps) j from few late = none_more m (how_many is_repaired_in steps (after_step (Tells clock) j)) (grows m start end steps (after_step (Tells clock) j) from few late)
 grows m start end (Leaves o ∷ steps) j from few late = none_more m (how_many is_repaired_in steps (after_step (Leaves o) j)) (grows m start end steps (after_step (Leaves o) j) from few late)
 grows m start end (Remembers name ∷ steps) j from few late = none_more m (how_many is_repaired_in steps (after_step (Remembers name) j)) (grows m start end steps (after_step (Remembers name) j) from few late)
+grows m start end (Recalls number o ∷ steps) j from few late = none_more m (how_many is_repaired_in steps (after_step (Recalls number o) j)) (grows m start end steps (after_step (Recalls number o) j) from few late)
 
 pub requests_are_paid_for : RequestsArePaidFor
 requests_are_paid_for start end [] j from few = omega (arith, from, few)
@@ -51,6 +52,7 @@ requests_are_paid_for start end (Reports sent ∷ steps) j from few = requests_a
 requests_are_paid_for start end (Tells clock ∷ steps) j from few = requests_are_paid_for start end steps (after_step (Tells clock) j) from few
 requests_are_paid_for start end (Leaves o ∷ steps) j from few = requests_are_paid_for start end steps (after_step (Leaves o) j) from few
 requests_are_paid_for start end (Remembers name ∷ steps) j from few = requests_are_paid_for start end steps (after_step (Remembers name) j) from few
+requests_are_paid_for start end (Recalls number o ∷ steps) j from few = requests_are_paid_for start end steps (after_step (Recalls number o) j) from few
 
 -- ---- one more
 

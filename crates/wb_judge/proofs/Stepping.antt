@@ -11,7 +11,7 @@ use Rattle.wb_judge.specs.Judge.{Judge, after_leaving, after_taking, is_full, kn
 use Rattle.wb_judge.specs.Judging.{after_coming, after_judging, drawop_verdict, draws, is_ahead, is_claimed, is_forged_drawop, verdict}
 use Rattle.wb_judge.specs.Known.{is_known, left}
 use Rattle.wb_judge.specs.Laws.{AreStrange, NeverAnswer, Step, StrangersHaveAShare, after_datagram, after_step, after_steps, answers_from, is_answer, is_taken, names_from, new_name, new_names, speaker_in}
-use Rattle.wb_judge.specs.Laws.{Comes, Leaves, Remembers, Reports, Tells}
+use Rattle.wb_judge.specs.Laws.{Comes, Leaves, Recalls, Remembers, Reports, Tells}
 use Rattle.wb_judge.specs.Origins.{same_origin}
 use Rattle.wb_judge.specs.Strange.{has_name, is_given_by, is_over, is_wide, with_given}
 use Rattle.wb_judge.specs.Told.{leaves_holes}
@@ -74,6 +74,7 @@ strange_step some (Reports sent) j unknown silent = unknown
 strange_step some (Tells clock) j unknown silent = unknown
 strange_step some (Leaves o) j unknown silent = strange_left some o j unknown
 strange_step some (Remembers name) j unknown silent = unknown
+strange_step some (Recalls number o) j unknown silent = unknown
 
 -- ---- how much is taken in
 
@@ -166,6 +167,7 @@ counted_step some (Reports sent) j unknown silent = omega arith
 counted_step some (Tells clock) j unknown silent = omega arith
 counted_step some (Leaves o) j unknown silent = omega arith
 counted_step some (Remembers name) j unknown silent = omega (arith, count_grows some (record { name = name; origin = None }) j.strange)
+counted_step some (Recalls number o) j unknown silent = omega arith
 
 counted : (some : Origin → Bool) (steps : List Step) (j : Judge) → AreStrange some j → NeverAnswer some steps j → count_of some j.strange + length (names_from some steps j) ≤ count_of some (after_steps steps j).strange
 counted some [] j unknown silent = omega arith

@@ -3,7 +3,7 @@ use Rattle.std.specs.Prelude.{ℕ, ◌-◌, ◌/◌, Bool, false, not, ◌&&◌,
 use Rattle.wb_names.specs.Values.{NameValue}
 use Rattle.wb_judge.specs.Firm.{is_firm_beside, present}
 use Rattle.wb_judge.specs.Known.{is_known, left}
-use Rattle.wb_judge.specs.Others.{gone_from, other_of}
+use Rattle.wb_judge.specs.Others.{gone_from, other_of, recalled}
 use Rattle.wb_judge.specs.Shares.{Shares}
 use Rattle.wb_judge.specs.Strange.{no_shares, with_given}
 use Rattle.wb_judge.specs.Days.{DayClock}
@@ -102,3 +102,7 @@ after_taking g o now j = if knows o now j then j else record j { strange = with_
 -- whoever spoke from there is gone
 abbrev pub after_leaving : Origin → Judge → Judge
 after_leaving o j = record j { known = left o j.known; others = gone_from o j.others }
+
+-- the record says who answered under a number; ours is ours
+abbrev pub after_recall : ℕ → Origin → Judge → Judge
+after_recall number o j = record j { others = if nat_eq number j.me then j.others else recalled number o j.others }

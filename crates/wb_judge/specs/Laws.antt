@@ -10,9 +10,9 @@ use Rattle.wb_judge.specs.Answers.{answers, reported}
 use Rattle.wb_judge.specs.Buckets.{has_room, paid_after}
 use Rattle.wb_judge.specs.Days.{DayClock, time_of_day}
 use Rattle.wb_judge.specs.Firm.{is_firm_beside, turn_at, turns}
-use Rattle.wb_judge.specs.Judge.{Judge, after_leaving, after_taking, is_another, is_firm, is_forged, is_full, knows, owner_in}
+use Rattle.wb_judge.specs.Judge.{Judge, after_leaving, after_recall, after_taking, is_another, is_firm, is_forged, is_full, knows, owner_in, owner_of}
 use Rattle.wb_judge.specs.Judging.{after_admitting, after_judging, draws, is_admitted, is_heard, verdict}
-use Rattle.wb_judge.specs.Others.{has_speaker, is_bound_elsewhere, other_of}
+use Rattle.wb_judge.specs.Others.{was_answered, has_speaker, is_bound_elsewhere, other_of}
 use Rattle.wb_judge.specs.Reports.{echo_to}
 use Rattle.wb_judge.specs.Strange.{has_name, is_given_by, is_there, row_of, with_given}
 use Rattle.wb_judge.specs.Told.{was_told}
@@ -72,6 +72,13 @@ OwnersStay = (o : Origin) (number : ℕ) (v : Datagram) (f : Facts) (j : Judge) 
 -- And a number is nobody's that was only claimed: whoever owns it may answer.
 abbrev pub ClaimsBindNobody : Type 0
 ClaimsBindNobody = (o : Origin) (number : ℕ) (x : Other) (j : Judge) → nat_eq number j.me ≡ false → other_of number j.others ≡ Some x → is_none x.answered ≡ true → is_forged number o j ≡ false
+
+-- What a record says: who answered under a number owns it again, unless somebody has answered under it since. The others own what they owned, while there is room.
+abbrev pub OwnersAreRecalled : Type 0
+OwnersAreRecalled = (number : ℕ) (o : Origin) (j : Judge) → nat_eq number j.me ≡ false → was_answered (other_of number j.others) ≡ false → owner_of number (after_recall number o j) ≡ o.owner
+
+abbrev pub OwnersBeside : Type 0
+OwnersBeside = (number other : ℕ) (o : Origin) (j : Judge) → nat_eq number other ≡ false → length j.others < MOST_OTHERS → owner_of other (after_recall number o j) ≡ owner_of other j
 
 -- A datagram that answers nobody, as a replay, shows no twin.
 abbrev pub ReplayIsNoTwin : Type 0
@@ -150,13 +157,14 @@ FewAreTaken = (ahead pause paid start end : ℕ) (moments : List ℕ) → AreFro
 -- ---- steps of a judge
 
 -- A datagram comes, and the board takes it in if it is a drawop that is handed in and new; we report; the time of day is set; whoever spoke from an
--- origin is gone; and a record tells a stranger's drawop.
+-- origin is gone; and a record tells a stranger's drawop, and who answered under a number.
 pub data Step : Type 0 where
   Comes : (o : Origin) → (v : Datagram) → (f : Facts) → Step
   Reports : (sent : ℕ) → Step
   Tells : (clock : DayClock) → Step
   Leaves : (o : Origin) → Step
   Remembers : (name : NameValue) → Step
+  Recalls : (number : ℕ) → (o : Origin) → Step
 
 abbrev pub is_taken : Origin → DrawopValue → Facts → Judge → Bool
 is_taken o d f j = is_none (verdict o (Draw d) f j).why && not f.holds
@@ -173,6 +181,7 @@ after_step (Reports sent) j = record j { own = reported sent j.own }
 after_step (Tells clock) j = record j { clock = clock }
 after_step (Leaves o) j = after_leaving o j
 after_step (Remembers name) j = record j { strange = with_given (record { name = name; origin = None }) j.strange }
+after_step (Recalls number o) j = after_recall number o j
 
 abbrev pub after_steps : List Step → Judge → Judge
 after_steps [] j = j

@@ -1,5 +1,5 @@
 -- The numbers that were heard, and from where.
-use Rattle.std.specs.Prelude.{ℕ, ◌-◌, Bool, false, not, ◌&&◌, List, [], ◌∷◌, ◌++◌, Option, Some, None, filter, is_none, is_some, length, nat_eq, nat_le, nat_lt, position, unwrap_or, if◌then◌else◌}
+use Rattle.std.specs.Prelude.{ℕ, ◌-◌, Bool, false, not, ◌&&◌, ◌||◌, List, [], ◌∷◌, ◌++◌, Option, Some, None, filter, is_none, is_some, length, nat_eq, nat_le, nat_lt, position, unwrap_or, if◌then◌else◌}
 use Rattle.std.specs.List.{find, list_any, remove}
 use Rattle.wb_judge.specs.Origins.{same_origin}
 use Rattle.wb_judge.specs.declared.limits.TheConstants.{MOST_OTHERS, PATIENCE}
@@ -13,10 +13,10 @@ other_of number others = find (λ x. nat_eq x.number number) others
 abbrev pub has_speaker : Origin → List Other → Bool
 has_speaker o others = list_any (λ x. same_origin x.origin o) others
 
--- it has answered us, and speaks from another origin
+-- it has answered us, and speaks from another origin: it was heard there lately, or that origin has an owner
 abbrev pub is_elsewhere : Origin → ℕ → Option Other → Bool
 is_elsewhere o now None = false
-is_elsewhere o now (Some x) = (not (same_origin x.origin o) && is_some x.answered) && nat_le (now - x.at) PATIENCE
+is_elsewhere o now (Some x) = (not (same_origin x.origin o) && is_some x.answered) && (nat_le (now - x.at) PATIENCE || is_some x.origin.owner)
 
 unfoldable pub is_bound_elsewhere : ℕ → Origin → ℕ → List Other → Bool
 is_bound_elsewhere number o now others = is_elsewhere o now (other_of number others)
@@ -44,6 +44,18 @@ with_place_for others = if nat_lt (length others) MOST_OTHERS then others else r
 
 unfoldable pub other_with : Other → List Other → List Other
 other_with x others = with_place_for (without x.number others) ++ x ∷ []
+
+-- somebody has answered under it
+abbrev pub was_answered : Option Other → Bool
+was_answered None = false
+was_answered (Some x) = is_some x.answered
+
+-- What a record says: a number answered from there once. Whoever has answered since it began keeps the number.
+abbrev pub answered_once : ℕ → Origin → Other
+answered_once number o = record { number = number; origin = o; at = 0; answered = Some 0; fetched = None }
+
+unfoldable pub recalled : ℕ → Origin → List Other → List Other
+recalled number o others = if was_answered (other_of number others) then others else other_with (answered_once number o) others
 
 -- heard so lately that it is still here
 abbrev pub is_here : ℕ → Other → Bool

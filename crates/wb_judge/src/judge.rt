@@ -5,7 +5,7 @@ ghost use Rattle.wb_names.specs.Moments.{IsMoment};
 ghost use Rattle.wb_judge.specs.Adding.{adding_fault, own_echo};
 ghost use Rattle.wb_judge.specs.Answers.{reported};
 ghost use Rattle.wb_judge.specs.Days.{time_of_day};
-ghost use Rattle.wb_judge.specs.Judge.{after_leaving, after_taking, is_another, is_forged, is_full, knows, opened, owner_in, owner_of};
+ghost use Rattle.wb_judge.specs.Judge.{after_leaving, after_recall, after_taking, is_another, is_forged, is_full, knows, opened, owner_in, owner_of};
 ghost use Rattle.wb_judge.specs.Pages.{rank_of};
 ghost use Rattle.wb_judge.specs.Strange.{with_given, without_name};
 ghost use Rattle.wb_judge.specs.declared.limits.TheConstants.{TIME_LIMIT};
@@ -178,6 +178,16 @@ impl Judge {
         }
     }
 
+    /// The record says that a number answered from there once: that owner has it, unless somebody
+    /// has answered under it since this judge began.
+    pub fn recall(&mut self, number: u32, origin: Origin)
+        ensures { self.new ≡ after_recall number origin self.old }
+    {
+        if number != self.me {
+            self.others.recall(number, origin);
+        }
+    }
+
     /// The network says that whoever spoke from there is gone.
     pub fn leave(&mut self, origin: Origin)
         ensures { self.new ≡ after_leaving origin self.old }
@@ -237,7 +247,7 @@ impl Judge {
     }
 
     /// Who owns a number, if somebody does: of another, who has answered under it.
-    fn owner_of(&self, number: u32) -> Option<u64>
+    pub fn owner_of(&self, number: u32) -> Option<u64>
         ensures { result ≡ owner_of number self.now }
     {
         if number == self.me {

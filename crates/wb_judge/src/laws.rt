@@ -4,10 +4,11 @@
 ghost use Rattle.std.specs.Prelude.{◌≡◌, ◌^◌};
 ghost use Rattle.wb_judge.specs.declared.limits.TheConstants.{AHEAD_KNOWN, AHEAD_STRANGER, ASKED_AHEAD, ASKED_PAUSE, DRIFT, FIRM_TIME, FRESH, LEAST_SHARE, MOST_ALIENS, MOST_KNOWN, MOST_OTHERS, MOST_OWN, MOST_SHARING, MOST_TOLD, OF_ORIGIN, PATIENCE, REPAIRS_AHEAD, REPAIRS_OF_ONE, REPAIR_PAUSE, RESERVE, SILENCE, STRANGERS, STRANGE_PAGES, STRANGE_ROWS, TIME_LIMIT};
 ghost use Rattle.wb_judge.specs.Members.{KnownAgain, KnownBeside, MembersAreHeard, NumbersBeside, RequestsArePaidFor, RequestsHaveRoom};
-ghost use Rattle.wb_judge.specs.Laws.{AMemberIsNotDropped, AliensStay, ClaimsBindNobody, FewAreTaken, NamesCountOnce, NamesTakeTurns, NewcomersHaveRoom, NobodyHushesFirmNames, NumbersStay, OnlyAnswersMakeKnown, OnlyMembersTell, OwnersStay, RepairsAreFew, RepairsAreShared, ReplayIsNoTwin, SharesStay, StateIsBounded, StaysStrange, StrangersAreFew, StrangersHaveAShare, StrangersHushNobody, StrangersLeaveNoHoles, TurnsAreFew, VouchesForNobody};
+ghost use Rattle.wb_judge.specs.Laws.{AMemberIsNotDropped, AliensStay, ClaimsBindNobody, FewAreTaken, NamesCountOnce, NamesTakeTurns, NewcomersHaveRoom, NobodyHushesFirmNames, NumbersStay, OnlyAnswersMakeKnown, OnlyMembersTell, OwnersAreRecalled, OwnersBeside, OwnersStay, RepairsAreFew, RepairsAreShared, ReplayIsNoTwin, SharesStay, StateIsBounded, StaysStrange, StrangersAreFew, StrangersHaveAShare, StrangersHushNobody, StrangersLeaveNoHoles, TurnsAreFew, VouchesForNobody};
 
 /// An origin becomes known by an answer that came from there, and by nothing else. A number that
-/// has answered us stays where it speaks, while it speaks, until it answers from elsewhere.
+/// has answered us stays where it speaks, while it speaks or has an owner, until it answers from
+/// elsewhere.
 pub fn only_answers_make_known()
     ensures known { OnlyAnswersMakeKnown }
     ensures numbers { NumbersStay }
@@ -18,6 +19,13 @@ pub fn only_answers_make_known()
 pub fn owners_stay()
     ensures stay { OwnersStay }
     ensures claims { ClaimsBindNobody }
+{}
+
+/// Whoever answered under a number before a start, as the record says, owns it after that, unless
+/// somebody has answered under it since. It takes no number from another while there is room.
+pub fn owners_are_recalled()
+    ensures recalled { OwnersAreRecalled }
+    ensures beside { OwnersBeside }
 {}
 
 /// A member's drawop is not dropped that is not ours, is at most a day ahead of the time of day,

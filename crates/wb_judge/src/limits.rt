@@ -16,8 +16,8 @@ pub const DRIFT: u64 = 4_096;
 /// An origin that answered us is known until it was silent for longer than this.
 pub const SILENCE: u64 = 600_000_000;
 
-/// A number stays with its origin until it was silent for longer than this: three of the longest
-/// intervals between two reports.
+/// A number that has no owner stays with its origin until it was silent for longer than this: three
+/// of the longest intervals between two reports.
 pub const PATIENCE: u64 = 192_000_000;
 
 /// The most origins that are known.

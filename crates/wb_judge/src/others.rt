@@ -2,7 +2,7 @@
 
 ghost use Rattle.std.specs.Prelude.{◌≡◌, ◌≤◌, ◌<◌, [], IfOk, IfSome, is_none, length, position};
 ghost use Rattle.wb_judge.specs.Firm.{is_present, present};
-ghost use Rattle.wb_judge.specs.Others.{first_to_go, gone_from, has_speaker, heard_lately, is_bound_elsewhere, other_of, other_with, spoken, without};
+ghost use Rattle.wb_judge.specs.Others.{first_to_go, gone_from, was_answered, has_speaker, heard_lately, is_bound_elsewhere, other_of, other_with, recalled, spoken, without};
 
 use crate::limits::{MOST_OTHERS, PATIENCE};
 use crate::origin::Origin;
@@ -71,7 +71,8 @@ impl Others {
         self.items.iter().any(|other| other.origin.is(&origin))
     }
 
-    /// Whether it is that of a member that has answered us and speaks from another origin.
+    /// Whether it is that of a member that has answered us and speaks from another origin: it was
+    /// heard there lately, or has an owner.
     #[tactic(auto, unfolding(crate::specs::Others::is_bound_elsewhere))]
     pub(crate) fn is_bound_elsewhere(&self, number: u32, origin: Origin, now: u64) -> bool
         ensures { result ≡ is_bound_elsewhere number origin now self.now }
@@ -81,7 +82,7 @@ impl Others {
             Some(other) => {
                 !other.origin.is(&origin)
                     && other.answered.is_some()
-                    && now.saturating_sub(other.at) <= PATIENCE
+                    && (now.saturating_sub(other.at) <= PATIENCE || other.origin.owner.is_some())
             }
         }
     }
@@ -133,6 +134,23 @@ impl Others {
         self.items.push_reserved(other);
     }
 
+    /// Remembers that a number answered from there once, unless somebody has answered under it.
+    #[tactic(auto, unfolding(crate::specs::Others::recalled))]
+    pub(crate) fn recall(&mut self, number: u32, origin: Origin)
+        ensures { self.new ≡ recalled number origin self.old }
+    {
+        if was_answered(self.get(number)) {
+            return;
+        }
+        self.put(Other {
+            number,
+            origin,
+            at: 0,
+            answered: Some(0),
+            fetched: None,
+        });
+    }
+
     /// The first that has not answered us, else the first.
     fn first_to_go(&self) -> usize
         requires { 0 < length self.now }
@@ -161,6 +179,16 @@ fn other_of(others: &[Other], number: u32) -> Option<Other>
     ensures { result ≡ other_of number others.now }
 {
     others.iter().find(|other| other.number == number).copied()
+}
+
+/// Whether somebody has answered under a number.
+fn was_answered(other: Option<Other>) -> bool
+    ensures { result ≡ was_answered other }
+{
+    match other {
+        None => false,
+        Some(other) => other.answered.is_some(),
+    }
 }
 
 /// Whether a number has answered us and was heard lately.

@@ -28,6 +28,7 @@ use Rattle.wb_judge.specs.declared.verdict.Verdict.{Verdict}
 use Rattle.wb_judge.specs.declared.verdict.Warning.TheVariants.{ForgedMark, Impostor, Twin}
 use Rattle.wb_judge.specs.declared.verdict.Why.{Why}
 use Rattle.wb_judge.specs.declared.verdict.Why.TheVariants.{Crowd, Mark, Own, Speaks as Elsewhere}
+use Rattle.wb_judge.proofs.Found.{other_new}
 use Rattle.wb_judge.proofs.Outcome.{said_number}
 use Rattle.wb_judge.proofs.Sameness.{same_itself, same_origins}
 use Rattle.wb_keeping.specs.Laws.{Came}
@@ -40,7 +41,7 @@ use Rattle.wb_judging.proofs.MembersIn.{each_kind_is_handed_in}
 use Rattle.wb_judged_sessions.specs.Answering.{AnswersAreHandedIn, AnswersMakeKnown, HasRoomFor, IsLeftKnown, KnownAreHandedIn, KnownGoOn, heard_at, heard_by_call, heard_by_line, is_report_of}
 use Rattle.wb_judged_sessions.specs.Knowing.{IsKnownSince, is_heard_since, is_known_since}
 use Rattle.wb_judged_sessions.specs.Sessions.{JudgedCall, Starts, Takes, Tunes, after_call, judged_at}
-use Rattle.wb_judged_sessions.proofs.Numbers.{hear_others, of_entry, other_new, said_now}
+use Rattle.wb_judged_sessions.proofs.Numbers.{hear_others, of_entry, said_now}
 use Rattle.wb_judged_sessions.proofs.Origins.{from_there}
 use Rattle.wb_judged_sessions.proofs.Records.{number_at}
 use Rattle.wb_judged_sessions.proofs.Staying.{came, known_for, report_makes_known, speaks_since, stays_known}

@@ -28,7 +28,7 @@ use Rattle.wb_judging.specs.Laws.{drawops_in, drawops_of, is_told}
 use Rattle.wb_judging.specs.News.{is_day}
 use Rattle.wb_judging.specs.Performing.{after_judged, after_kept_line}
 use Rattle.wb_judging.specs.declared.record.RecordLine.{RecordLine}
-use Rattle.wb_judging.specs.declared.record.RecordLine.TheVariants.{Known, Mark, Said, Strange, Tick}
+use Rattle.wb_judging.specs.declared.record.RecordLine.TheVariants.{Known, Mark, Owner, Said, Strange, Tick}
 use Rattle.wb_judging.proofs.Again.{cells_line, cells_of, held_by}
 use Rattle.wb_judging.proofs.Boards.{IsOther, held_drawn, held_heard, held_recalled, held_ticked}
 use Rattle.wb_judging.proofs.Followed.{nobody_moves_our_time}
@@ -134,6 +134,7 @@ module _ (latest cells : ℕ) (held : List DrawopValue) (each : IsWithin latest 
   recalled_within (Known d) le = one_within d le
   recalled_within (Strange d) le = one_within d le
   recalled_within (Mark speaker page mark) le = each
+  recalled_within (Owner number place owner) le = each
 
 line_within : (latest : ℕ) (line : Call) (h : Judged) → day_of_record (recalled_by line) ≤ latest → keeps latest line h
 line_within latest (CameFrom now o v) h le each day = came_within latest now o v h each day

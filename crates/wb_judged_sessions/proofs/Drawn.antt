@@ -23,7 +23,7 @@ use Rattle.wb_judging.specs.declared.call.Call.TheVariants.{CameFrom, Held, Pass
 use Rattle.wb_judging.specs.Laws.{expanded}
 use Rattle.wb_judging.specs.Performing.{after_judged, after_kept_line, gained}
 use Rattle.wb_judging.specs.declared.record.RecordLine.{RecordLine}
-use Rattle.wb_judging.specs.declared.record.RecordLine.TheVariants.{Known, Mark, Said, Strange, Tick}
+use Rattle.wb_judging.specs.declared.record.RecordLine.TheVariants.{Known, Mark, Owner, Said, Strange, Tick}
 use Rattle.wb_judging.proofs.Again.{all_dropped}
 use Rattle.wb_laws_kept.specs.Sessions.{Begins, CallAt, kept_at, steps_of}
 use Rattle.wb_laws_kept.proofs.Honest.{came_given, moments_given, of_policy, ticks_given, timed_given}
@@ -71,6 +71,7 @@ recalled_draws now (Said d) = tt
 recalled_draws now (Known d) = tt
 recalled_draws now (Strange d) = tt
 recalled_draws now (Mark speaker page mark) = tt
+recalled_draws now (Owner number place owner) = tt
 
 pub plain_draws : (line : KeptLine) → DrawsNone line → DrawsNone (plain_line line)
 plain_draws (Came now v) is = tt

@@ -31,7 +31,7 @@ use Rattle.wb_judging.specs.declared.call.Call.TheVariants.{CameFrom, Held, Pass
 use Rattle.wb_judging.specs.Laws.{after_all, sends_in}
 use Rattle.wb_judging.specs.Performing.{after_judged, after_kept_line, events_of, judging, sent_by_kept_line}
 use Rattle.wb_judging.specs.declared.record.RecordLine.{RecordLine}
-use Rattle.wb_judging.specs.declared.record.RecordLine.TheVariants.{Known as KnownLine, Mark, Said, Strange, Tick}
+use Rattle.wb_judging.specs.declared.record.RecordLine.TheVariants.{Known as KnownLine, Mark, Owner, Said, Strange, Tick}
 use Rattle.wb_judging.proofs.AsKept.{sends_as_kept}
 use Rattle.wb_judging.proofs.Numbers.{me_judging}
 use Rattle.wb_kept_progress.proofs.Counted.{echoes_listed}
@@ -59,6 +59,7 @@ timed_line (Held (Said d)) h = (tt, refl)
 timed_line (Held (KnownLine d)) h = (tt, refl)
 timed_line (Held (Strange d)) h = (tt, refl)
 timed_line (Held (Mark speaker page mark)) h = (tt, refl)
+timed_line (Held (Owner number place owner)) h = (tt, refl)
 
 module _ (number : ℕ) where
   recalled_quiet : (now : ℕ) (line : RecordLine) → IsQuiet number (recalled now line)
@@ -67,6 +68,7 @@ module _ (number : ℕ) where
   recalled_quiet now (KnownLine d) = tt
   recalled_quiet now (Strange d) = tt
   recalled_quiet now (Mark speaker page mark) = tt
+  recalled_quiet now (Owner n place owner) = tt
 
   held_same : (line : RecordLine) (h : Judged) → newest_of number (after_judged (Held line) h).kept.host ≡ newest_of number h.kept.host
   unfolding after_kept_line

@@ -1,12 +1,8 @@
 -- What a judge has heard of a number stays after each datagram, if nobody answers under that number from elsewhere.
-use Rattle.std.proofs.Common.{◌≡◌, ◌⊎◌, ◌∙◌, ◌≤◌, ◌<◌, ◌+◌, ◌-◌, ℕ, zero, suc, Bool, true, false, cond, List, [], ◌∷◌, ap, arith, filter, inl, inr, length, refl, subst, sym, true≢false, ⊎_elim}
-use Rattle.std.specs.Prelude.{◌&&◌, ◌||◌, Option, None, Some, is_none, is_some, nat_eq, nat_le, nat_lt, not, unwrap_or}
-use Rattle.std.specs.List.{find, list_any, position_or_len, remove}
-use Rattle.std.specs.Option.{option_or}
-use Rattle.std.proofs.lemmas.Bool.{and_from, and_parts, eq-eqb, eqb-true, le-leb, leb-true, lt-ltb, or_right}
+use Rattle.std.proofs.Common.{◌≡◌, ◌⊎◌, ◌∙◌, ◌≤◌, ◌<◌, ◌+◌, ◌-◌, ℕ, Bool, true, false, cond, List, [], ap, arith, filter, inl, inr, length, refl, subst, sym, true≢false, ⊎_elim}
+use Rattle.std.specs.Prelude.{◌&&◌, ◌||◌, Option, None, Some, is_some, nat_eq, nat_le, not}
+use Rattle.std.proofs.lemmas.Bool.{and_from, and_parts, eq-eqb, eqb-true, le-leb, leb-true, or_left, or_right}
 use Rattle.std.proofs.lemmas.Bool.Decides.{nat_tests}
-use Rattle.std.proofs.lemmas.List.Folds.{find-append}
-use Rattle.std.proofs.lemmas.Option.{same_Some}
 use Rattle.wb_names.specs.Values.{MarkValue}
 use Rattle.wb_names.specs.declared.echo.Echo.{Echo}
 use Rattle.wb_names.specs.declared.name.PageId.{PageId}
@@ -19,157 +15,18 @@ use Rattle.wb_judge.specs.Judging.{after_admitted, after_admitting, after_answer
 use Rattle.wb_judge.specs.Laws.{is_answer, speaker_in}
 use Rattle.wb_judge.specs.Origins.{same_origin}
 use Rattle.wb_judge.specs.Others as numbers
-use Rattle.wb_judge.specs.Others.{first_to_go, heard_again, heard_first, is_bound_elsewhere, other_of, other_with, spoken, with_place_for, without}
+use Rattle.wb_judge.specs.Others.{heard_again, heard_first, is_bound_elsewhere, other_of, other_with, spoken}
 use Rattle.wb_judge.specs.Reports.{report_of}
 use Rattle.wb_judge.specs.declared.facts.Facts.{Facts}
 use Rattle.wb_judge.specs.declared.limits.TheConstants.{MOST_OTHERS, PATIENCE}
 use Rattle.wb_judge.specs.declared.origin.Origin.{Origin}
 use Rattle.wb_judge.specs.declared.others.Other.{Other}
 use Rattle.wb_judge.specs.declared.report.Report.{Report}
-use Rattle.wb_judge.proofs.NumbersBeside.{find_kept}
+use Rattle.wb_judge.proofs.Found.{has_answered, other_kept, other_new}
 use Rattle.wb_judge.proofs.Outcome.{Heard, Same, outcome, said_number}
 use Rattle.wb_judge.proofs.Sameness.{same_origins}
 use Rattle.wb_judge.proofs.Twins.{numbers_stay, own_others}
 use Rattle.wb_judged_sessions.specs.Knowing.{is_heard_since}
-
-abbrev has : ℕ → Other → Bool
-has n x = nat_eq x.number n
-
-abbrev pub has_answered : Other → Bool
-has_answered x = is_some x.answered
-
-abbrev is_unanswered : Other → Bool
-is_unanswered x = is_none x.answered
-
--- ---- one makes room
-
--- one is taken out, and whoever is found and may not go stays
-record Goes (may : Other → Bool) (xs : List Other) (place : ℕ) : Type 0 where
-  within : place < length xs
-  still : (q : Other → Bool) (y : Other) → find q xs ≡ Some y → may y ≡ false → find q (remove xs place) ≡ Some y
-
-next : (k : ℕ) → suc k ≡ 1 + k
-next k = omega arith
-
--- the first that may go does so
-goes : (may : Other → Bool) (xs : List Other) → list_any may xs ≡ true → Goes may xs (position_or_len may xs)
-goes may [] some = absurd (true≢false (sym some))
-goes may (x ∷ xs) some = by (may x) refl some (goes may xs) where
-  here : may x ≡ true → (q : Other → Bool) (y : Other) → find q (x ∷ xs) ≡ Some y → may y ≡ false → find q xs ≡ Some y
-  here is q y found stays = by (q x) found where
-    by : (c : Bool) → cond c (Some x) (find q xs) ≡ Some y → find q xs ≡ Some y
-    by true found = absurd (true≢false (sym is ∙ ap may (same_Some x y found) ∙ stays))
-    by false found = found
-
-  there : (k : ℕ) → Goes may xs k → (q : Other → Bool) (y : Other) → find q (x ∷ xs) ≡ Some y → may y ≡ false → find q (x ∷ remove xs k) ≡ Some y
-  there k rest q y found stays = by (q x) found where
-    by : (c : Bool) → cond c (Some x) (find q xs) ≡ Some y → cond c (Some x) (find q (remove xs k)) ≡ Some y
-    by true found = found
-    by false found = rest.still q y found stays
-
-  later : (k : ℕ) → Goes may xs k → Goes may (x ∷ xs) (suc k)
-  later k rest = record { within = let lt = rest.within in omega (arith, lt); still = there k rest }
-
-  by : (b : Bool) → may x ≡ b → (b || list_any may xs) ≡ true → (list_any may xs ≡ true → Goes may xs (position_or_len may xs)) → Goes may (x ∷ xs) (cond (not b) (1 + position_or_len may xs) 0)
-  by true is some rest = record { within = omega arith; still = here is }
-  by false is some rest = subst (λ (k : ℕ). Goes may (x ∷ xs) k) (next (position_or_len may xs)) (later (position_or_len may xs) (rest some))
-
--- either one has not answered, or all count
-all_count : (xs : List Other) → list_any is_unanswered xs ≡ false → length (filter has_answered xs) ≡ length xs
-all_count [] none = refl
-all_count (x ∷ xs) none = by x.answered none (all_count xs) where
-  by : (a : Option ℕ) → (is_none a || list_any is_unanswered xs) ≡ false → (list_any is_unanswered xs ≡ false → length (filter has_answered xs) ≡ length xs)
-      → length (cond (is_some a) (x ∷ filter has_answered xs) (filter has_answered xs)) ≡ length (x ∷ xs)
-  by None none rest = absurd (true≢false none)
-  by (Some at) none rest = let r = rest none in omega (arith, r)
-
-found_in_place : (q : Other → Bool) (xs : List Other) (y : Other) → length (filter has_answered xs) < MOST_OTHERS → has_answered y ≡ true → find q xs ≡ Some y → find q (with_place_for xs) ≡ Some y
-found_in_place q xs y room answered found = by (nat_lt (length xs) MOST_OTHERS) refl where
-  stays : is_unanswered y ≡ false
-  stays = of y.answered answered where
-    of : (a : Option ℕ) → is_some a ≡ true → is_none a ≡ false
-    of None e = absurd (true≢false (sym e))
-    of (Some at) e = refl
-
-  some : nat_lt (length xs) MOST_OTHERS ≡ false → list_any is_unanswered xs ≡ true
-  some full = choose (list_any is_unanswered xs) refl where
-    choose : (b : Bool) → list_any is_unanswered xs ≡ b → b ≡ true
-    choose true is = refl
-    choose false is = let all = all_count xs is in let many : MOST_OTHERS ≤ length xs = grind (arith, nat_tests) in absurd (omega (arith, all, many, room))
-
-  by : (b : Bool) → nat_lt (length xs) MOST_OTHERS ≡ b → find q (cond b xs (remove xs (first_to_go xs))) ≡ Some y
-  by true few = found
-  by false full =
-      let g = goes is_unanswered xs (some full) in
-      ap (λ (c : Bool). find q (remove xs (unwrap_or (cond c (Some (position_or_len is_unanswered xs)) None) 0))) (lt-ltb (position_or_len is_unanswered xs) (length xs) g.within) ∙ g.still q y found stays
-
--- ---- who is looked for, where one is taken out
-
-fewer_count : (r p : Other → Bool) (xs : List Other) → length (filter r (filter p xs)) ≤ length (filter r xs)
-fewer_count r p [] = omega arith
-fewer_count r p (x ∷ xs) = by (p x) (r x) refl (fewer_count r p xs) where
-  by : (b c : Bool) → r x ≡ c → length (filter r (filter p xs)) ≤ length (filter r xs) → length (filter r (cond b (x ∷ filter p xs) (filter p xs))) ≤ length (cond c (x ∷ filter r xs) (filter r xs))
-  by true true is le = subst (λ (d : Bool). length (cond d (x ∷ filter r (filter p xs)) (filter r (filter p xs))) ≤ length (x ∷ filter r xs)) (sym is) (omega (arith, le))
-  by true false is le = subst (λ (d : Bool). length (cond d (x ∷ filter r (filter p xs)) (filter r (filter p xs))) ≤ length (filter r xs)) (sym is) le
-  by false true is le = omega (arith, le)
-  by false false is le = le
-
--- none is found where all were taken out, also if one more goes
-none_found : (q p : Other → Bool) → ((x : Other) → q x ≡ true → p x ≡ false) → (xs : List Other) → list_any q (filter p xs) ≡ false
-none_found q p so [] = refl
-none_found q p so (x ∷ xs) = by (p x) refl (q x) refl (none_found q p so xs) where
-  by : (b : Bool) → p x ≡ b → (c : Bool) → q x ≡ c → list_any q (filter p xs) ≡ false → list_any q (cond b (x ∷ filter p xs) (filter p xs)) ≡ false
-  by true is true at rest = absurd (true≢false (sym is ∙ so x at))
-  by true is false at rest = ap (λ (d : Bool). d || list_any q (filter p xs)) at ∙ rest
-  by false is c at rest = rest
-
-none_of : (q : Other → Bool) (xs : List Other) → list_any q xs ≡ false → find q xs ≡ None
-none_of q [] none = refl
-none_of q (x ∷ xs) none = by (q x) none (none_of q xs) where
-  by : (b : Bool) → (b || list_any q xs) ≡ false → (list_any q xs ≡ false → find q xs ≡ None) → cond b (Some x) (find q xs) ≡ None
-  by true none rest = absurd (true≢false none)
-  by false none rest = rest none
-
-none_removed : (q : Other → Bool) (xs : List Other) (k : ℕ) → list_any q xs ≡ false → list_any q (remove xs k) ≡ false
-none_removed q [] zero none = refl
-none_removed q [] (suc k) none = refl
-none_removed q (x ∷ xs) zero none = by (q x) none where
-  by : (b : Bool) → (b || list_any q xs) ≡ false → list_any q xs ≡ false
-  by true none = absurd (true≢false none)
-  by false none = none
-none_removed q (x ∷ xs) (suc k) none = by (q x) none (none_removed q xs k) where
-  by : (b : Bool) → (b || list_any q xs) ≡ false → (list_any q xs ≡ false → list_any q (remove xs k) ≡ false) → (b || list_any q (remove xs k)) ≡ false
-  by true none rest = absurd (true≢false none)
-  by false none rest = rest none
-
-none_in_place : (q : Other → Bool) (xs : List Other) → list_any q xs ≡ false → list_any q (with_place_for xs) ≡ false
-none_in_place q xs none = by (nat_lt (length xs) MOST_OTHERS) where
-  by : (b : Bool) → list_any q (cond b xs (remove xs (first_to_go xs))) ≡ false
-  by true = none
-  by false = none_removed q xs (first_to_go xs) none
-
--- another stays, if it has answered
-other_kept : (n : ℕ) (x y : Other) (others : List Other) → length (filter has_answered others) < MOST_OTHERS → nat_eq x.number n ≡ false → has_answered y ≡ true → other_of n others ≡ Some y
-    → other_of n (other_with x others) ≡ Some y
-unfolding other_with
-other_kept n x y others room apart answered found =
-    find-append (has n) (with_place_for (without x.number others)) (x ∷ [])
-    ∙ ap (λ (o : Option Other). option_or o (find (has n) (x ∷ [])))
-    (found_in_place (has n) (without x.number others) y (omega (arith, fewer_count has_answered (λ (z : Other). not (nat_eq z.number x.number)) others, room)) answered
-    (find_kept (has n) (λ (z : Other). not (nat_eq z.number x.number)) another others ∙ found)) where
-      another : (z : Other) → has n z ≡ true → not (nat_eq z.number x.number) ≡ true
-      another z at = grind (arith, nat_tests)
-
--- and this one is found
-pub other_new : (n : ℕ) (x : Other) (others : List Other) → nat_eq x.number n ≡ true → other_of n (other_with x others) ≡ Some x
-unfolding other_with
-other_new n x others same =
-    find-append (has n) (with_place_for (without x.number others)) (x ∷ [])
-    ∙ ap (λ (o : Option Other). option_or o (find (has n) (x ∷ [])))
-    (none_of (has n) (with_place_for (without x.number others)) (none_in_place (has n) (without x.number others) (none_found (has n) (λ (z : Other). not (nat_eq z.number x.number)) it others)))
-    ∙ ap (λ (b : Bool). cond b (Some x) None) same where
-      it : (z : Other) → has n z ≡ true → not (nat_eq z.number x.number) ≡ false
-      it z at = grind (arith, nat_tests)
 
 -- ---- what a report makes of the numbers that were heard
 
@@ -285,14 +142,14 @@ spoken_in o (AskPages asker) f j = inl (silent o (AskPages asker) f j refl)
 -- ---- who was heard
 
 -- which entry that is
-record Entry (o : Origin) (number at : ℕ) (others : List Other) : Type 0 where
-  x : Other
-  found : other_of number others ≡ Some x
-  origin : same_origin x.origin o ≡ true
-  answered : is_some x.answered ≡ true
-  late : at ≤ x.at
+pub record Entry (o : Origin) (number at : ℕ) (others : List Other) : Type 0 where
+  pub x : Other
+  pub found : other_of number others ≡ Some x
+  pub origin : same_origin x.origin o ≡ true
+  pub answered : is_some x.answered ≡ true
+  pub late : at ≤ x.at
 
-entry_of : (o : Origin) (number at : ℕ) (others : List Other) → is_heard_since o at (other_of number others) ≡ true → Entry o number at others
+pub entry_of : (o : Origin) (number at : ℕ) (others : List Other) → is_heard_since o at (other_of number others) ≡ true → Entry o number at others
 entry_of o number at others heard = by (other_of number others) refl heard where
   by : (x : Option Other) → other_of number others ≡ x → is_heard_since o at x ≡ true → Entry o number at others
   by None is e = absurd (true≢false (sym e))
@@ -321,8 +178,8 @@ said_again fetch o number answer now since at others le e =
 not_elsewhere : (o p : Origin) (number now at : ℕ) (others : List Other) → now ≤ at + PATIENCE → (e : Entry o number at others) → is_bound_elsewhere number p now others ≡ false → same_origin p o ≡ true
 unfolding is_bound_elsewhere
 not_elsewhere o p number now at others soon e free = by (same_origin e.x.origin p) refl where
-  lately : nat_le (now - e.x.at) PATIENCE ≡ true
-  lately = let le = e.late in le-leb (now - e.x.at) PATIENCE (omega (arith, le, soon))
+  lately : (nat_le (now - e.x.at) PATIENCE || is_some e.x.origin.owner) ≡ true
+  lately = let le = e.late in or_left (nat_le (now - e.x.at) PATIENCE) (is_some e.x.origin.owner) (le-leb (now - e.x.at) PATIENCE (omega (arith, le, soon)))
 
   bound : same_origin e.x.origin p ≡ false → is_bound_elsewhere number p now others ≡ true
   bound apart =
@@ -373,7 +230,7 @@ not_bound : (o : Origin) (number now at : ℕ) (others : List Other) (e : Entry 
 unfolding is_bound_elsewhere
 not_bound o number now at others e =
     ap (λ (x : Option Other). numbers.is_elsewhere o now x) e.found
-    ∙ ap (λ (b : Bool). (not b && is_some e.x.answered) && nat_le (now - e.x.at) PATIENCE) e.origin
+    ∙ ap (λ (b : Bool). (not b && is_some e.x.answered) && (nat_le (now - e.x.at) PATIENCE || is_some e.x.origin.owner)) e.origin
 
 no_other_owner : (a : Option ℕ) → is_another a a ≡ false
 no_other_owner None = refl

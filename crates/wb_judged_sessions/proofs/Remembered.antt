@@ -31,7 +31,7 @@ use Rattle.wb_judging.specs.declared.call.Call.{Call}
 use Rattle.wb_judging.specs.declared.call.Call.TheVariants.{CameFrom, Held, Passed, UserDrew}
 use Rattle.wb_judging.specs.declared.event.Fate.{Fate}
 use Rattle.wb_judging.specs.declared.record.RecordLine.{RecordLine}
-use Rattle.wb_judging.specs.declared.record.RecordLine.TheVariants.{Known, Mark, Said, Strange, Tick}
+use Rattle.wb_judging.specs.declared.record.RecordLine.TheVariants.{Known, Mark, Owner, Said, Strange, Tick}
 use Rattle.wb_judging.specs.Laws.{sends_in}
 use Rattle.wb_judging.specs.Performing.{after_judged, events_of, fate_by, judging, sent_by_kept_line}
 use Rattle.wb_judging.proofs.AsKept.{sends_as_kept}
@@ -167,6 +167,7 @@ recalled_own (Said d) fate j = refl
 recalled_own (Known d) fate j = refl
 recalled_own (Strange d) fate j = either_own (is_new fate) j (with_strange d.name j) refl
 recalled_own (Mark speaker page mark) fate j = refl
+recalled_own (Owner number place owner) fate j = refl
 
 judged_own : (now : ℕ) (o : Origin) (v : Datagram) (h : Judged) → (judge_after now o v h).own ≡ h.judge.own
 unfolding judge_after

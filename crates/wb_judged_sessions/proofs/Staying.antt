@@ -1,18 +1,18 @@
 -- Whom a judge knows it knows after each line that leaves it so, and anew after each report.
 use Rattle.std.proofs.Common.{◌≡◌, ◌≤◌, ◌+◌, ◌∙◌, ℕ, Bool, true, false, cond, List, [], ◌∷◌, ap, arith, refl, sym, true≢false}
 use Rattle.std.specs.Prelude.{◌&&◌, ◌||◌, Option, None, Some, nat_eq, nat_le}
-use Rattle.std.proofs.lemmas.Bool.{and_parts, le-leb, leb-true}
+use Rattle.std.proofs.lemmas.Bool.{and_parts, eqb-true, le-leb, leb-true}
 use Rattle.wb_names.specs.Values.{MarkValue}
 use Rattle.wb_names.specs.declared.echo.Echo.{Echo}
 use Rattle.wb_names.specs.declared.name.PageId.{PageId}
 use Rattle.wb_codec.specs.declared.datagram.Datagram.{Datagram}
 use Rattle.wb_codec.specs.declared.datagram.Datagram.TheVariants.{AskPages, Draw, PageState, Request, Session}
-use Rattle.wb_judge.specs.Judge.{Judge, after_taking, knows}
+use Rattle.wb_judge.specs.Judge.{Judge, after_recall, after_taking, knows}
 use Rattle.wb_judge.specs.Judging.{is_forged_mark, is_heard}
 use Rattle.wb_judge.specs.Laws.{is_answer}
 use Rattle.wb_judge.specs.Members.{Speaks}
 use Rattle.wb_judge.specs.Origins.{same_origin}
-use Rattle.wb_judge.specs.Others.{other_of}
+use Rattle.wb_judge.specs.Others.{answered_once, other_of, other_with, recalled, was_answered}
 use Rattle.wb_judge.specs.Reports.{report_of}
 use Rattle.wb_judge.specs.Strange.{with_given}
 use Rattle.wb_judge.specs.declared.known.KnownOrigin.{KnownOrigin}
@@ -20,20 +20,21 @@ use Rattle.wb_judge.specs.declared.limits.TheConstants.{SILENCE}
 use Rattle.wb_judge.specs.declared.origin.Origin.{Origin}
 use Rattle.wb_judge.specs.declared.others.Other.{Other}
 use Rattle.wb_judge.specs.declared.strange.Given.{Given}
+use Rattle.wb_judge.proofs.Found.{other_kept}
 use Rattle.wb_judging.specs.Events.{is_new}
 use Rattle.wb_judging.specs.Handing.{facts_of, handed, judge_after}
-use Rattle.wb_judging.specs.Hearing.{after_fate, after_recalling, after_sending, after_sends, with_strange}
+use Rattle.wb_judging.specs.Hearing.{after_fate, after_recalling, after_sending, after_sends, owned_at, with_strange}
 use Rattle.wb_judging.specs.Judged.{Judged}
 use Rattle.wb_judging.specs.declared.call.Call.{Call}
 use Rattle.wb_judging.specs.declared.call.Call.TheVariants.{CameFrom, Held, Passed, UserDrew}
 use Rattle.wb_judging.specs.Performing.{after_judged, fate_by, judging, sent_by_kept_line}
 use Rattle.wb_judging.specs.declared.event.Fate.{Fate}
 use Rattle.wb_judging.specs.declared.record.RecordLine.{RecordLine}
-use Rattle.wb_judging.specs.declared.record.RecordLine.TheVariants.{Known, Mark, Said, Strange, Tick}
+use Rattle.wb_judging.specs.declared.record.RecordLine.TheVariants.{Known, Mark, Owner, Said, Strange, Tick}
 use Rattle.wb_judging.proofs.Followed.{at_now}
 use Rattle.wb_judging.proofs.NewsTold.{heard_stays, known_stays}
 use Rattle.wb_judged_sessions.specs.Knowing.{HasRoom, IsKnownSince, LeavesKnown, StaysKnown, is_heard_since, is_known_since}
-use Rattle.wb_judged_sessions.proofs.Numbers.{heard_now, heard_still}
+use Rattle.wb_judged_sessions.proofs.Numbers.{Entry, entry_of, heard_now, heard_still}
 use Rattle.wb_judged_sessions.proofs.Origins.{known_now, known_still, knows_for}
 
 -- ---- who is known, and who was heard
@@ -76,18 +77,41 @@ fated now o (Request asker name) fate j = itself j
 fated now o (AskPages asker) fate j = itself j
 fated now o (PageState sender page marks) fate j = itself j
 
-recalling : (line : RecordLine) (fate : Option Fate) (j : Judge) → Alike j (after_recalling line fate j)
-recalling (Tick past) fate j = itself j
-recalling (Said d) fate j = record { known = refl; others = refl }
-recalling (Known d) fate j = record { known = refl; others = refl }
-recalling (Strange d) fate j = either (is_new fate) j (with_strange d.name j) (record { known = refl; others = refl })
-recalling (Mark speaker page mark) fate j = itself j
-
 alike : (o : Origin) (number at : ℕ) (j k : Judge) → Alike j k → IsKnownSince o number at j → IsKnownSince o number at k
 alike o number at j k s m = record {
   known = ap (is_known_since o at) s.known ∙ m.known;
   heard = ap (λ (others : List Other). is_heard_since o at (other_of number others)) s.others ∙ m.heard;
 }
+
+-- whoever answered under a number, as the record says, takes the place of nobody who has answered
+recalled_owner : (n : ℕ) (q o : Origin) (number at : ℕ) (j : Judge) → HasRoom j → is_heard_since o at (other_of number j.others) ≡ true → is_heard_since o at (other_of number (after_recall n q j).others) ≡ true
+unfolding recalled
+recalled_owner n q o number at j room heard = by (nat_eq n j.me) (was_answered (other_of n j.others)) refl where
+  e : Entry o number at j.others
+  e = entry_of o number at j.others heard
+
+  apart : was_answered (other_of n j.others) ≡ false → nat_eq n number ≡ false
+  apart none = choose (nat_eq n number) refl where
+    choose : (b : Bool) → nat_eq n number ≡ b → b ≡ false
+    choose true is =
+        let found = ap (λ (m : ℕ). was_answered (other_of m j.others)) (eqb-true n number is) ∙ ap was_answered e.found ∙ e.answered in
+        absurd (true≢false (sym found ∙ none))
+    choose false is = refl
+
+  by : (b c : Bool) → was_answered (other_of n j.others) ≡ c → is_heard_since o at (other_of number (cond b j.others (cond c j.others (other_with (answered_once n q) j.others)))) ≡ true
+  by true c is = heard
+  by false true is = heard
+  by false false is =
+      ap (is_heard_since o at) (other_kept number (answered_once n q) e.x j.others room.others (apart is) e.answered e.found ∙ sym e.found) ∙ heard
+
+recalling : (line : RecordLine) (fate : Option Fate) (j : Judge) (o : Origin) (number at : ℕ) → HasRoom j → IsKnownSince o number at j → IsKnownSince o number at (after_recalling line fate j)
+recalling (Tick past) fate j o number at room m = m
+recalling (Said d) fate j o number at room m = record { known = m.known; heard = m.heard }
+recalling (Known d) fate j o number at room m = record { known = m.known; heard = m.heard }
+recalling (Strange d) fate j o number at room m =
+    alike o number at j (after_recalling (Strange d) fate j) (either (is_new fate) j (with_strange d.name j) (record { known = refl; others = refl })) m
+recalling (Mark speaker page mark) fate j o number at room m = m
+recalling (Owner n place owner) fate j o number at room m = record { known = m.known; heard = recalled_owner n (owned_at place owner) o number at j room m.heard }
 
 -- after the line, it sends
 and_sends : (line : Call) (h : Judged) (o : Origin) (number at : ℕ) → IsKnownSince o number at (judging line h) → IsKnownSince o number at (after_judged line h).judge
@@ -126,7 +150,7 @@ stays_known (Passed now news) h o number at room leaves m =
     })
 stays_known (UserDrew now page op) h o number at room leaves m = and_sends (UserDrew now page op) h o number at m
 stays_known (Held line) h o number at room leaves m =
-    and_sends (Held line) h o number at (alike o number at h.judge (judging (Held line) h) (recalling line (fate_by (handed (Held line) h) h.kept) h.judge) m)
+    and_sends (Held line) h o number at (recalling line (fate_by (handed (Held line) h) h.kept) h.judge o number at room m)
 
 -- ---- a report
 

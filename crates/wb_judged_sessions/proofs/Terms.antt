@@ -32,7 +32,7 @@ use Rattle.wb_judging.specs.Refusing.{has_number}
 use Rattle.wb_judging.specs.declared.judged_fault.JudgedFault.{JudgedFault}
 use Rattle.wb_judging.specs.declared.judged_fault.JudgedFault.TheVariants.{Judge as OfJudge, Kept as OfKept}
 use Rattle.wb_judging.specs.declared.record.RecordLine.{RecordLine}
-use Rattle.wb_judging.specs.declared.record.RecordLine.TheVariants.{Known, Mark, Said, Strange, Tick}
+use Rattle.wb_judging.specs.declared.record.RecordLine.TheVariants.{Known, Mark, Owner, Said, Strange, Tick}
 use Rattle.wb_judging.proofs.Followed.{the_network_refuses_nothing}
 use Rattle.wb_judging.proofs.Numbers.{own_stays}
 use Rattle.wb_laws_kept.specs.Openings.{Opening, opened}
@@ -176,6 +176,7 @@ recalled_came now (Said d) = refl
 recalled_came now (Known d) = refl
 recalled_came now (Strange d) = refl
 recalled_came now (Mark speaker page mark) = refl
+recalled_came now (Owner number place owner) = refl
 
 record_came : (given : List RecordLine) (h : Judged) → all_came (expanded (map Held given) h) ≡ drawops_of given
 record_came [] h = refl

@@ -19,7 +19,7 @@ use Rattle.wb_judging.specs.declared.call.Call.TheVariants.{CameFrom, Held, Pass
 use Rattle.wb_judging.specs.Laws.{expanded}
 use Rattle.wb_judging.specs.Performing.{after_judged, after_kept_line}
 use Rattle.wb_judging.specs.declared.record.RecordLine.{RecordLine}
-use Rattle.wb_judging.specs.declared.record.RecordLine.TheVariants.{Known, Mark, Said, Strange, Tick}
+use Rattle.wb_judging.specs.declared.record.RecordLine.TheVariants.{Known, Mark, Owner, Said, Strange, Tick}
 use Rattle.wb_laws_kept.specs.Openings.{opened_host}
 use Rattle.wb_laws_kept.specs.Sessions.{Begins, CallAt, Handed}
 use Rattle.wb_kept_progress.specs.Since.{AreFittingSince as AreKeptFitting, AreInOrder as AreKeptInOrder, IsFitting, IsFittingSince as IsKeptFitting, called_at as kept_called_at}
@@ -84,6 +84,7 @@ recalled_now (Said d) now = refl
 recalled_now (Known d) now = refl
 recalled_now (Strange d) now = refl
 recalled_now (Mark speaker page mark) now = refl
+recalled_now (Owner number place owner) now = refl
 
 pub present_recalled : (line : RecordLine) (h : Judged) → present (after_judged (Held line) h).kept.host ≡ present h.kept.host
 unfolding after_kept_line
@@ -102,6 +103,7 @@ module _ (terms : Terms) (time place : ℕ) where
   fits_recalled now (Known d) is = record { says = is; tuned = λ constants e. absurd cc }
   fits_recalled now (Strange d) is = record { says = is; tuned = λ constants e. absurd cc }
   fits_recalled now (Mark speaker page mark) is = record { says = is; tuned = λ constants e. absurd cc }
+  fits_recalled now (Owner number spot owner) is = record { says = is; tuned = λ constants e. absurd cc }
 
   fits_came : (now : ℕ) (v : Datagram) (why : Option Why) → IsNowAt terms time place now → IsFitting terms time place (plain_line (handed_for now v why))
   fits_came now v None is = record { says = is; tuned = λ constants e. absurd cc }

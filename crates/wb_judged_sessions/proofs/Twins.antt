@@ -36,7 +36,7 @@ use Rattle.wb_judging.specs.Events.{is_new}
 use Rattle.wb_judging.specs.Hearing.{after_fate, after_recalling, after_sending, after_sends, with_strange}
 use Rattle.wb_judging.specs.declared.event.Fate.{Fate}
 use Rattle.wb_judging.specs.declared.record.RecordLine.{RecordLine}
-use Rattle.wb_judging.specs.declared.record.RecordLine.TheVariants.{Known, Mark, Said, Strange, Tick}
+use Rattle.wb_judging.specs.declared.record.RecordLine.TheVariants.{Known, Mark, Owner, Said, Strange, Tick}
 use Rattle.wb_judging.specs.Judged.{Judged, moment_of}
 use Rattle.wb_judging.specs.declared.call.Call.{Call}
 use Rattle.wb_judging.specs.declared.call.Call.TheVariants.{CameFrom, Held, Passed, UserDrew}
@@ -188,6 +188,7 @@ recalling (Said d) fate j seen = seen
 recalling (Known d) fate j seen = seen
 recalling (Strange d) fate j seen = either (is_new fate) (with_strange d.name j) j seen seen
 recalling (Mark speaker page mark) fate j seen = seen
+recalling (Owner number place owner) fate j seen = seen
 
 before_sending : (line : Call) (h : Judged) → IsSeen h.judge → IsSeen (judging line h)
 unfolding judge_after

@@ -35,7 +35,7 @@ use Rattle.wb_judging.specs.declared.call.Call.TheVariants.{CameFrom, Held, Pass
 use Rattle.wb_judging.specs.Laws.{drawops_in}
 use Rattle.wb_judging.specs.Performing.{after_judged, after_kept_line, judging, sent_by_kept_line}
 use Rattle.wb_judging.specs.declared.record.RecordLine.{RecordLine}
-use Rattle.wb_judging.specs.declared.record.RecordLine.TheVariants.{Known, Mark, Said, Strange, Tick}
+use Rattle.wb_judging.specs.declared.record.RecordLine.TheVariants.{Known, Mark, Owner, Said, Strange, Tick}
 use Rattle.wb_judging.proofs.AsKept.{sends_as_kept}
 use Rattle.wb_laws_kept.specs.Sessions.{steps_of}
 use Rattle.wb_laws_sessions.proofs.Holding.{none_held_is_asked_for}
@@ -113,6 +113,7 @@ module _ (d : DrawopValue) (a : AnswerTimer) where
     by (Said e) other = copied e other
     by (Known e) other = copied e other
     by (Strange e) other = copied e other
+    by (Owner number place owner) other = ticked_answers d a now h.kept once is
     by (Mark speaker page mark) other = came_answers d a now (PageState speaker page (mark ∷ [])) h.kept (λ lt y same. absurd (no_drawop y same)) once is where
       no_drawop : (y : DrawopValue) → PageState speaker page (mark ∷ []) ≡ Draw y → ⊥
       no_drawop y e = cc
@@ -165,6 +166,7 @@ module _ (n : NameValue) (x : AskTimer) where
     by (Said e) = came_asks n x now (Draw e) h.kept (λ lt m asker e. absurd cc) is
     by (Known e) = came_asks n x now (Draw e) h.kept (λ lt m asker e. absurd cc) is
     by (Strange e) = came_asks n x now (Draw e) h.kept (λ lt m asker e. absurd cc) is
+    by (Owner number place owner) = ticked_asks n x now h.kept is
     by (Mark speaker page mark) = came_asks n x now (PageState speaker page (mark ∷ [])) h.kept (λ lt m asker e. absurd cc) is
 
   abbrev IsWaiting : Keeping → Type 0

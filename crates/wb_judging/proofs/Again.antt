@@ -34,12 +34,12 @@ use Rattle.wb_judging.specs.Hearing.{after_fate, after_recalling, after_sending,
 use Rattle.wb_judging.specs.Judged.{Call, CameFrom, Held, Judged, Passed, UserDrew, giver_of, moment_of}
 use Rattle.wb_judging.specs.Laws.{ItBeginsAgain, TheRecordIsTheBoard, after_all, drawops_in, drawops_of, record_by, record_of}
 use Rattle.wb_judging.specs.Performing.{after_judged, fate_by, first_lines, gained, judging, lines_of, sent_by_kept_line}
-use Rattle.wb_judging.specs.Recording.{freed, gain_lines, line_of, mark_lines, named, new_mark, new_mark_of}
+use Rattle.wb_judging.specs.Recording.{freed, gain_lines, line_of, mark_lines, named, new_mark, new_mark_of, new_owner, owner_by, owner_lines}
 use Rattle.wb_judging.specs.declared.event.Fate.{Fate}
 use Rattle.wb_judging.specs.declared.record.Giver.{Giver}
 use Rattle.wb_judging.specs.declared.record.Giver.TheVariants.{Others}
 use Rattle.wb_judging.specs.declared.record.RecordLine.{RecordLine}
-use Rattle.wb_judging.specs.declared.record.RecordLine.TheVariants.{Known, Mark, Said, Strange, Tick}
+use Rattle.wb_judging.specs.declared.record.RecordLine.TheVariants.{Known, Mark, Owner, Said, Strange, Tick}
 use Rattle.wb_judging.proofs.Boards.{IsOther, gained_heard, gained_kept, gained_ticked, gains_kept, held_drawn, held_recalled, takes_kept}
 use Rattle.wb_judging.proofs.Histories.{Of, after_both, all_held, fresh_is_new, holds_last, of_both, of_filter, of_so, taken_again}
 use Rattle.wb_judging.proofs.NewsTold.{news_keeps}
@@ -55,6 +55,7 @@ drawops_both (Said d ∷ one) other = ap (λ (ds : List DrawopValue). d ∷ ds) 
 drawops_both (Known d ∷ one) other = ap (λ (ds : List DrawopValue). d ∷ ds) (drawops_both one other)
 drawops_both (Strange d ∷ one) other = ap (λ (ds : List DrawopValue). d ∷ ds) (drawops_both one other)
 drawops_both (Mark speaker page mark ∷ one) other = drawops_both one other
+drawops_both (Owner number place owner ∷ one) other = drawops_both one other
 
 pub drawops_noted : (now : ℕ) (lines : List RecordLine) → drawops_of (noted now lines) ≡ drawops_of lines
 drawops_noted now [] = refl
@@ -75,43 +76,61 @@ drawops_given given (d ∷ ds) = by (has_name d.name given) ∙ ap (λ (es : Lis
   by true = refl
   by false = refl
 
--- ---- marks
+-- ---- marks and owners
 
-abbrev IsMark : RecordLine → Type 0
-IsMark (Tick now) = ⊥
-IsMark (Said d) = ⊥
-IsMark (Known d) = ⊥
-IsMark (Strange d) = ⊥
-IsMark (Mark speaker page mark) = Unit {0}
+abbrev IsAside : RecordLine → Type 0
+IsAside (Tick now) = ⊥
+IsAside (Said d) = ⊥
+IsAside (Known d) = ⊥
+IsAside (Strange d) = ⊥
+IsAside (Mark speaker page mark) = Unit {0}
+IsAside (Owner number place owner) = Unit {0}
 
-one_mark : (speaker : ℕ) (page : PageId) (mark : Option MarkValue) (host : Opened) → Of IsMark (option_to_list (new_mark speaker page mark host))
+one_mark : (speaker : ℕ) (page : PageId) (mark : Option MarkValue) (host : Opened) → Of IsAside (option_to_list (new_mark speaker page mark host))
 one_mark speaker page None host = tt
 one_mark speaker page (Some mark) host = by (nat_lt (last_number page host) mark.high) where
-  by : (b : Bool) → Of IsMark (option_to_list (cond b (Some (Mark speaker page mark)) None))
+  by : (b : Bool) → Of IsAside (option_to_list (cond b (Some (Mark speaker page mark)) None))
   by true = (tt, tt)
   by false = tt
 
-mark_of : (v : Datagram) (host : Opened) → Of IsMark (option_to_list (new_mark_of v host))
+mark_of : (v : Datagram) (host : Opened) → Of IsAside (option_to_list (new_mark_of v host))
 mark_of (Draw d) host = tt
 mark_of (Session sender sent page marks echoes) host = one_mark sender page (mark_in host.is.number marks) host
 mark_of (Request asker name) host = tt
 mark_of (AskPages asker) host = tt
 mark_of (PageState sender page marks) host = one_mark sender page (mark_in host.is.number marks) host
 
-are_marks : (now : ℕ) (v : Datagram) (why : Option Why) (k : Keeping) → Of IsMark (mark_lines now v why k)
+are_marks : (now : ℕ) (v : Datagram) (why : Option Why) (k : Keeping) → Of IsAside (mark_lines now v why k)
 are_marks now v None k = by (nat_lt now k.policy.ready) where
-  by : (b : Bool) → Of IsMark (cond b (option_to_list (new_mark_of v k.host)) [])
+  by : (b : Bool) → Of IsAside (cond b (option_to_list (new_mark_of v k.host)) [])
   by true = mark_of v k.host
   by false = tt
 are_marks now v (Some why) k = tt
 
-no_drawops : (lines : List RecordLine) → Of IsMark lines → drawops_of lines ≡ []
+is_owner : (speaker : Option ℕ) (place : ℕ) (before after : Option ℕ) → Of IsAside (option_to_list (new_owner speaker place before after))
+is_owner None place before after = tt
+is_owner (Some number) place None None = tt
+is_owner (Some number) place None (Some owner) = (tt, tt)
+is_owner (Some number) place (Some before) after = tt
+
+-- what is recorded beside drawops
+abbrev asides : ℕ → Origin → Datagram → Judged → List RecordLine
+asides now o v h = mark_lines now v (verdict_on now o v h).why h.kept ++ owner_lines o v h.judge (judge_after now o v h)
+
+are_asides : (now : ℕ) (o : Origin) (v : Datagram) (h : Judged) → Of IsAside (asides now o v h)
+are_asides now o v h =
+    let speaker = speaker_in v in
+    of_both IsAside (mark_lines now v (verdict_on now o v h).why h.kept) (owner_lines o v h.judge (judge_after now o v h)) (are_marks now v (verdict_on now o v h).why h.kept)
+    (is_owner speaker o.place (owner_by speaker h.judge) (owner_by speaker (judge_after now o v h)))
+
+no_drawops : (lines : List RecordLine) → Of IsAside lines → drawops_of lines ≡ []
 no_drawops [] each = refl
 no_drawops (Tick now ∷ lines) each = absurd each.0
 no_drawops (Said d ∷ lines) each = absurd each.0
 no_drawops (Known d ∷ lines) each = absurd each.0
 no_drawops (Strange d ∷ lines) each = absurd each.0
 no_drawops (Mark speaker page mark ∷ lines) each = no_drawops lines each.1
+no_drawops (Owner number place owner ∷ lines) each = no_drawops lines each.1
 
 -- ---- the board
 
@@ -129,10 +148,10 @@ pub first_held : (line : Call) (h : Judged) → AreHeld (held_by h) (drawops_of 
 first_held (CameFrom now o v) h =
     let held = held_by h in
     let ds = named (freed o h.judge.strange.given (judge_after now o v h).strange.given) held in
-    let marks = mark_lines now v (verdict_on now o v h).why h.kept in
+    let rest = asides now o v h in
     let same : drawops_of (first_lines (CameFrom now o v) h) ≡ ds =
-    drawops_both (map Known ds) marks
-    ∙ ap (λ (es : List DrawopValue). drawops_of (map Known ds) ++ es) (no_drawops marks (are_marks now v (verdict_on now o v h).why h.kept))
+    drawops_both (map Known ds) rest
+    ∙ ap (λ (es : List DrawopValue). drawops_of (map Known ds) ++ es) (no_drawops rest (are_asides now o v h))
     ∙ append-nil (drawops_of (map Known ds)) ∙ drawops_known ds in
     subst (AreHeld held) (sym same) (of_filter (λ (d : DrawopValue). holds held d.name ≡ true) _ held (all_held held))
 first_held (Passed now news) h = tt
@@ -196,6 +215,7 @@ told_by_line most cells (Said d) held ns = less d.name ns
 told_by_line most cells (Known d) held ns = less d.name ns
 told_by_line most cells (Strange d) held ns = cond (is_new (Some (fate_of (outcome_of cells held d)))) (more most d.name ns) ns
 told_by_line most cells (Mark speaker page mark) held ns = ns
+told_by_line most cells (Owner number place owner) held ns = ns
 
 abbrev told_by : ℕ → ℕ → List RecordLine → List DrawopValue → List NameValue → List NameValue
 told_by most cells [] held ns = ns
@@ -212,13 +232,14 @@ told_noted : (most cells now : ℕ) (lines : List RecordLine) (held : List Drawo
 told_noted most cells now [] held ns = refl
 told_noted most cells now (line ∷ lines) held ns = refl
 
-told_marks : (most cells : ℕ) (lines : List RecordLine) (held : List DrawopValue) (ns : List NameValue) → Of IsMark lines → told_by most cells lines held ns ≡ ns
-told_marks most cells [] held ns each = refl
-told_marks most cells (Tick now ∷ lines) held ns each = absurd each.0
-told_marks most cells (Said d ∷ lines) held ns each = absurd each.0
-told_marks most cells (Known d ∷ lines) held ns each = absurd each.0
-told_marks most cells (Strange d ∷ lines) held ns each = absurd each.0
-told_marks most cells (Mark speaker page mark ∷ lines) held ns each = told_marks most cells lines held ns each.1
+told_asides : (most cells : ℕ) (lines : List RecordLine) (held : List DrawopValue) (ns : List NameValue) → Of IsAside lines → told_by most cells lines held ns ≡ ns
+told_asides most cells [] held ns each = refl
+told_asides most cells (Tick now ∷ lines) held ns each = absurd each.0
+told_asides most cells (Said d ∷ lines) held ns each = absurd each.0
+told_asides most cells (Known d ∷ lines) held ns each = absurd each.0
+told_asides most cells (Strange d ∷ lines) held ns each = absurd each.0
+told_asides most cells (Mark speaker page mark ∷ lines) held ns each = told_asides most cells lines held ns each.1
+told_asides most cells (Owner number place owner ∷ lines) held ns each = told_asides most cells lines held ns each.1
 
 told_known : (most cells : ℕ) (ds : List DrawopValue) (held : List DrawopValue) (ns : List NameValue) → told_by most cells (map Known ds) held ns ≡ less_all ds ns
 told_known most cells [] held ns = refl
@@ -276,6 +297,7 @@ sound_line most cells (Said d) held ns s = let o = outcome_of cells held d in so
 sound_line most cells (Known d) held ns s = let o = outcome_of cells held d in sound_less (history_with held d o) d.name ns (sound_grown held d o ns s)
 sound_line most cells (Strange d) held ns s = sound_more most cells held d ns s
 sound_line most cells (Mark speaker page mark) held ns s = s
+sound_line most cells (Owner number place owner) held ns s = s
 
 sound_lines : (most cells : ℕ) (lines : List RecordLine) (held : List DrawopValue) (ns : List NameValue) → Sound held ns
     → Sound (history_after cells held (drawops_of lines)) (told_by most cells lines held ns)
@@ -368,10 +390,9 @@ first_told now o v h s =
     let cells = cells_of h in
     let held = held_by h in
     let ds = named (freed o h.judge.strange.given (judge_after now o v h).strange.given) held in
-    let marks = mark_lines now v (verdict_on now o v h).why h.kept in
-    told_both most cells (map Known ds) marks held (strange_names h)
-    ∙ told_marks most cells marks (history_after cells held (drawops_of (map Known ds))) (told_by most cells (map Known ds) held (strange_names h))
-    (are_marks now v (verdict_on now o v h).why h.kept)
+    let rest = asides now o v h in
+    told_both most cells (map Known ds) rest held (strange_names h)
+    ∙ told_asides most cells rest (history_after cells held (drawops_of (map Known ds))) (told_by most cells (map Known ds) held (strange_names h)) (are_asides now o v h)
     ∙ told_known most cells ds held (strange_names h)
     ∙ sym (freed_told o h.judge.strange (judge_after now o v h).strange held (strange_judged now o v h) s)
 
@@ -514,6 +535,7 @@ recalled_told (Strange d) h = by (is_new (Some (fate_of (outcome_of (cells_of h)
   by true = sym (names_more (record { name = d.name; origin = None }) h.judge.strange)
   by false = refl
 recalled_told (Mark speaker page mark) h = refl
+recalled_told (Owner number place owner) h = refl
 
 new_names : (held : List DrawopValue) (ns : List NameValue) (ds : List DrawopValue) → Of (λ (n : NameValue). holds held n ≡ true) ns → Of (λ (d : DrawopValue). holds held d.name ≡ false) ds
     → Of (λ (d : DrawopValue). Of (λ (m : NameValue). same_name m d.name ≡ false) ns) ds
@@ -574,6 +596,7 @@ most_recalled (Said d) fate j = refl
 most_recalled (Known d) fate j = refl
 most_recalled (Strange d) fate j = most_if (is_new fate) (with_strange d.name j) j (most_given (record { name = d.name; origin = None }) j.strange)
 most_recalled (Mark speaker page mark) fate j = refl
+most_recalled (Owner number place owner) fate j = refl
 
 most_judging : (line : Call) (h : Judged) → (judging line h).strange.most ≡ most_of h
 most_judging (CameFrom now o v) h = most_fate now o v (fate_by (handed (CameFrom now o v) h) h.kept) (judge_after now o v h) ∙ most_judged now o v h

@@ -25,7 +25,7 @@ use Rattle.wb_judging.specs.Handing.{recalled}
 use Rattle.wb_judging.specs.Laws.{drawops_in}
 use Rattle.wb_judging.specs.Performing.{after_kept_line, gained}
 use Rattle.wb_judging.specs.declared.record.RecordLine.{RecordLine}
-use Rattle.wb_judging.specs.declared.record.RecordLine.TheVariants.{Known, Mark, Said, Strange, Tick}
+use Rattle.wb_judging.specs.declared.record.RecordLine.TheVariants.{Known, Mark, Owner, Said, Strange, Tick}
 use Rattle.wb_judging.proofs.Histories.{Gains, after_both, gained_is, gains}
 
 -- ---- whatever a host does
@@ -157,6 +157,7 @@ held_recalled now (Said d) k = held_drawn now d k
 held_recalled now (Known d) k = held_drawn now d k
 held_recalled now (Strange d) k = held_drawn now d k
 held_recalled now (Mark speaker page mark) k = held_heard now (PageState speaker page (mark ∷ [])) k (λ d is. absurd cc)
+held_recalled now (Owner number place owner) k = held_ticked now k
 
 -- what is gained
 none_more : (h after : List DrawopValue) → after ≡ h → drop (length h) after ≡ []

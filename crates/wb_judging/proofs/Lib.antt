@@ -22,3 +22,4 @@ pub mod Asked
 pub mod Patching
 pub mod MembersIn
 pub mod MembersStay
+pub mod OwnersKnown

@@ -1,7 +1,7 @@
 -- Members stay members while only members speak.
 use Rattle.std.proofs.Common.{◌≡◌, ◌≤◌, ◌+◌, ◌-◌, ◌∙◌, ℕ, Bool, true, false, cond, List, [], ◌∷◌, ap, refl, subst, sym, true≢false}
-use Rattle.std.proofs.lemmas.Bool.{and_parts}
-use Rattle.std.specs.Prelude.{Option, Some, ◌&&◌, nat_le}
+use Rattle.std.proofs.lemmas.Bool.{and_parts, eqb-true}
+use Rattle.std.specs.Prelude.{None, Option, Some, ◌&&◌, nat_eq, nat_le}
 use Rattle.wb_codec.specs.declared.datagram.Datagram.{Datagram}
 use Rattle.wb_codec.specs.declared.datagram.Datagram.TheVariants.{AskPages, Draw, PageState, Request, Session}
 use Rattle.wb_judge.specs.Judge.{Judge, after_taking, knows}
@@ -19,17 +19,18 @@ use Rattle.wb_judge.specs.declared.others.Other.{Other}
 use Rattle.wb_judge.specs.declared.strange.Given.{Given}
 use Rattle.wb_judge.proofs.MembersStay.{known_again, known_beside}
 use Rattle.wb_judge.proofs.NumbersBeside.{numbers_beside}
+use Rattle.wb_judge.proofs.Owners.{beside_recalled}
 use Rattle.wb_judge.proofs.Sameness.{same_itself, same_origins}
 use Rattle.wb_judging.specs.Events.{is_new}
 use Rattle.wb_judging.specs.Handing.{facts_of, handed, judge_after}
-use Rattle.wb_judging.specs.Hearing.{after_fate, after_recalling, after_sending, after_sends, with_strange}
+use Rattle.wb_judging.specs.Hearing.{after_fate, after_recalling, after_sending, after_sends, owned_at, with_strange}
 use Rattle.wb_judging.specs.Judged.{Call, CameFrom, Held, Judged, Passed, UserDrew}
-use Rattle.wb_judging.specs.Members.{IsMemberUntil, MembersAreKnownAgain, MembersStay}
+use Rattle.wb_judging.specs.Members.{FindsRoom, IsMemberUntil, MembersAreKnownAgain, MembersStay}
 use Rattle.wb_judging.specs.News.{LeavesOrigin, News, after_news}
 use Rattle.wb_judging.specs.Performing.{after_judged, fate_by, judging, sent_by_kept_line}
 use Rattle.wb_judging.specs.declared.event.Fate.{Fate}
 use Rattle.wb_judging.specs.declared.record.RecordLine.{RecordLine}
-use Rattle.wb_judging.specs.declared.record.RecordLine.TheVariants.{Known, Mark, Said, Strange, Tick}
+use Rattle.wb_judging.specs.declared.record.RecordLine.TheVariants.{Known, Mark, Owner, Said, Strange, Tick}
 use Rattle.wb_judging.proofs.Followed.{at_now}
 use Rattle.wb_judging.proofs.NewsTold.{heard_stays, known_stays, news_keeps}
 use Rattle.wb_judging.proofs.Numbers.{came_fixed}
@@ -75,13 +76,6 @@ fated now o (Request asker name) fate j = itself j
 fated now o (AskPages asker) fate j = itself j
 fated now o (PageState sender page marks) fate j = itself j
 
-recalling : (line : RecordLine) (fate : Option Fate) (j : Judge) → Same j (after_recalling line fate j)
-recalling (Tick past) fate j = itself j
-recalling (Said d) fate j = record { me = refl; known = refl; others = refl }
-recalling (Known d) fate j = record { me = refl; known = refl; others = refl }
-recalling (Strange d) fate j = either (is_new fate) j (with_strange d.name j) (record { me = refl; known = refl; others = refl })
-recalling (Mark speaker page mark) fate j = itself j
-
 -- ---- a member
 
 record IsOne (o : Origin) (number until : ℕ) (j : Judge) : Type 0 where
@@ -102,6 +96,27 @@ and_sends line h o number until m =
     let sent = sent_by_kept_line (handed line h) h.kept in
     let n = same_one o number until (judging line h) (after_sends sent (judging line h)) (all_sent sent (judging line h)) m in
     record { known = n.known; speaks = record { another = n.another; heard = n.heard } }
+
+-- ---- a line of the record
+
+apart : (o : Origin) (n number : ℕ) (others : List Other) → other_of n others ≡ None → is_heard o false (other_of number others) ≡ true → nat_eq n number ≡ false
+apart o n number others none heard = by (nat_eq n number) refl where
+  by : (b : Bool) → nat_eq n number ≡ b → b ≡ false
+  by true is = absurd (true≢false (sym heard ∙ ap (λ (m : ℕ). is_heard o false (other_of m others)) (sym (eqb-true n number is)) ∙ ap (is_heard o false) none))
+  by false is = refl
+
+recalled_one : (line : RecordLine) (fate : Option Fate) (j : Judge) (o : Origin) (number until : ℕ) → FindsRoom line j → IsOne o number until j → IsOne o number until (after_recalling line fate j)
+recalled_one (Tick past) fate j o number until room m = m
+recalled_one (Said d) fate j o number until room m = record { known = m.known; another = m.another; heard = m.heard }
+recalled_one (Known d) fate j o number until room m = record { known = m.known; another = m.another; heard = m.heard }
+recalled_one (Strange d) fate j o number until room m =
+    same_one o number until j (after_recalling (Strange d) fate j) (either (is_new fate) j (with_strange d.name j) (record { me = refl; known = refl; others = refl })) m
+recalled_one (Mark speaker page mark) fate j o number until room m = m
+recalled_one (Owner n place owner) fate j o number until room m = record {
+  known = m.known;
+  another = m.another;
+  heard = ap (is_heard o false) (beside_recalled n number (owned_at place owner) j (apart o n number j.others room.0 m.heard) room.1) ∙ m.heard;
+}
 
 -- ---- something comes
 
@@ -162,4 +177,4 @@ members_stay (Passed now news) h o number until bounded leaves m =
     })
 members_stay (UserDrew now page op) h o number until bounded leaves m = and_sends (UserDrew now page op) h o number until (one_of h o number until m)
 members_stay (Held line) h o number until bounded leaves m =
-    and_sends (Held line) h o number until (same_one o number until h.judge (judging (Held line) h) (recalling line (fate_by (handed (Held line) h) h.kept) h.judge) (one_of h o number until m))
+    and_sends (Held line) h o number until (recalled_one line (fate_by (handed (Held line) h) h.kept) h.judge o number until leaves (one_of h o number until m))

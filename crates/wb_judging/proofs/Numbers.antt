@@ -17,7 +17,7 @@ use Rattle.wb_judging.specs.Hearing.{after_fate, after_recalling, after_sending,
 use Rattle.wb_judging.specs.Performing.{after_judged, after_kept_line, fate_by, judging, sent_by_kept_line}
 use Rattle.wb_judging.specs.declared.event.Fate.{Fate}
 use Rattle.wb_judging.specs.declared.record.RecordLine.{RecordLine}
-use Rattle.wb_judging.specs.declared.record.RecordLine.TheVariants.{Known, Mark, Said, Strange, Tick}
+use Rattle.wb_judging.specs.declared.record.RecordLine.TheVariants.{Known, Mark, Owner, Said, Strange, Tick}
 use Rattle.wb_judging.proofs.Fixed.{Fixed, itself, judged, taken, then}
 use Rattle.wb_judging.proofs.NewsTold.{news_keeps}
 
@@ -81,6 +81,7 @@ recalled_fixed (Said d) fate j = members_fixed d.name j
 recalled_fixed (Known d) fate j = members_fixed d.name j
 recalled_fixed (Strange d) fate j = either (is_new fate) j (with_strange d.name j) (strange_fixed d.name j)
 recalled_fixed (Mark speaker page mark) fate j = itself j
+recalled_fixed (Owner number place owner) fate j = record { me = refl; cells = refl; clock = refl }
 
 pub me_judging : (line : Call) (h : Judged) → (judging line h).me ≡ h.judge.me
 me_judging (CameFrom now o v) h = (came_fixed now o v h).me

@@ -22,7 +22,7 @@ use Rattle.wb_judging.specs.Hearing.{after_fate, after_recalling, after_sends}
 use Rattle.wb_judging.specs.Judged.{CameFrom, Held, Judged, Passed}
 use Rattle.wb_judging.specs.News.{News, after_news, news_events}
 use Rattle.wb_judging.specs.Performing.{Goes, IsJudgedAt, JudgedValue, KeptDoes, Performs, after_judged, events_of, fate_by, first_lines}
-use Rattle.wb_judging.specs.Recording.{freed_lines, gain_lines, mark_lines}
+use Rattle.wb_judging.specs.Recording.{freed_lines, gain_lines, mark_lines, owner_lines}
 use Rattle.wb_judging.specs.Refusing.{IsRefusedAs}
 use Rattle.wb_judging.specs.declared.event.Event.{Event}
 use Rattle.wb_judging.specs.declared.event.Fate.{Fate}
@@ -62,7 +62,7 @@ not_refused X Y f e r is none gives =
 pub record Weighs (now : ℕ) (o : Origin) (v : Datagram) (f : Facts) (k : KeptValue) (j0 j1 : Judge) (r : Verdict) (first : List RecordLine) : Type 0 where
   pub judged : r ≡ verdict o v f j0
   pub judge : j1 ≡ after_judging o v f j0
-  pub lines : (k' : Keeping) → IsKeptAt k k' → first ≡ freed_lines o j0.strange.given j1.strange.given k'.host.is.held ++ mark_lines f.at v r.why k'
+  pub lines : (k' : Keeping) → IsKeptAt k k' → first ≡ freed_lines o j0.strange.given j1.strange.given k'.host.is.held ++ (mark_lines f.at v r.why k' ++ owner_lines o v j0 j1)
 
 pub took : (now : ℕ) (o : Origin) (v : Datagram) (h : Judged) (k0 k1 k2 : KeptValue) (j0 j1 j2 : Judge) (f : Facts) (r : Verdict) (held : ℕ) (sent : List Datagram) (fate : Option Fate) (lines : List RecordLine) (e0 e1 e2 e3 : List Event) (new : JudgedValue)
     → IsJudgedAt (record { kept = k0; judge = j0 }) h → k1 ≡ k0 → f.at ≡ now → ((k : Keeping) → IsKeptAt k0 k → f ≡ facts_of now v k)
@@ -86,10 +86,10 @@ took now o v h k0 k1 k2 j0 j1 j2 f r held sent fate lines e0 e1 e2 e3 new at sam
     let became = (does h.kept at.kept).2 in
     let records : lines ≡ first_lines line h =
     weighs.lines h.kept (subst (λ (v : KeptValue). IsKeptAt v h.kept) (sym same) at.kept)
-    ∙ ap (λ (j : Judge). freed_lines o j.strange.given j1.strange.given h.kept.host.is.held ++ mark_lines f.at v r.why h.kept) at.judge
-    ∙ ap (λ (j : Judge). freed_lines o h.judge.strange.given j.strange.given h.kept.host.is.held ++ mark_lines f.at v r.why h.kept) judged
-    ∙ ap (λ (n : ℕ). freed_lines o h.judge.strange.given (judge_after now o v h).strange.given h.kept.host.is.held ++ mark_lines n v r.why h.kept) moment
-    ∙ ap (λ (w : Option Why). freed_lines o h.judge.strange.given (judge_after now o v h).strange.given h.kept.host.is.held ++ mark_lines now v w h.kept) why in
+    ∙ ap (λ (j : Judge). freed_lines o j.strange.given j1.strange.given h.kept.host.is.held ++ (mark_lines f.at v r.why h.kept ++ owner_lines o v j j1)) at.judge
+    ∙ ap (λ (j : Judge). freed_lines o h.judge.strange.given j.strange.given h.kept.host.is.held ++ (mark_lines f.at v r.why h.kept ++ owner_lines o v h.judge j)) judged
+    ∙ ap (λ (n : ℕ). freed_lines o h.judge.strange.given (judge_after now o v h).strange.given h.kept.host.is.held ++ (mark_lines n v r.why h.kept ++ owner_lines o v h.judge (judge_after now o v h))) moment
+    ∙ ap (λ (w : Option Why). freed_lines o h.judge.strange.given (judge_after now o v h).strange.given h.kept.host.is.held ++ (mark_lines now v w h.kept ++ owner_lines o v h.judge (judge_after now o v h))) why in
     let goes = went now lines Others (handed line h) start mid new held sent fate e1 e2 does refl kept judge tells in
     performed line h old start new lines e1 e2 e3 at refl
     (hears ∙ ap (λ (fate : Option Fate). after_fate now o v fate j1) became ∙ ap (λ (j : Judge). after_fate now o v (fate_by (handed line h) h.kept) j) judged)

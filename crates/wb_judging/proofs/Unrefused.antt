@@ -36,7 +36,7 @@ use Rattle.wb_judging.specs.Refusing.{draw_fault, has_number, held_fault}
 use Rattle.wb_judging.specs.declared.judged_fault.JudgedFault.{JudgedFault}
 use Rattle.wb_judging.specs.declared.judged_fault.JudgedFault.TheVariants.{Judge as OfJudge, Kept as OfKept}
 use Rattle.wb_judging.specs.declared.record.RecordLine.{RecordLine}
-use Rattle.wb_judging.specs.declared.record.RecordLine.TheVariants.{Known, Mark, Said, Strange, Tick}
+use Rattle.wb_judging.specs.declared.record.RecordLine.TheVariants.{Known, Mark, Owner, Said, Strange, Tick}
 use Rattle.wb_judging.proofs.Again.{drawops_both, drawops_given, drawops_noted, drawops_said, first_held, held_by}
 use Rattle.wb_judging.proofs.Boards.{held_added, held_drawn, held_heard, held_recalled, held_ticked, its}
 use Rattle.wb_judging.proofs.Handed.{state_fault, unknown_not}
@@ -175,6 +175,7 @@ low_recalled number now (Said d) k is each none = (low_fault number now d k is e
 low_recalled number now (Known d) k is each none = (low_fault number now d k is each none, tt)
 low_recalled number now (Strange d) k is each none = (low_fault number now d k is each none, tt)
 low_recalled number now (Mark speaker page mark) k is each none = tt
+low_recalled number now (Owner n place owner) k is each none = tt
 
 -- and such a line is refused by nobody
 unknown_none : (own high held : Bool) → not (own && high) ≡ true → (own && (high && not held)) ≡ false
@@ -196,6 +197,7 @@ line_taken (Said d) k low = drawop_taken d k low.0
 line_taken (Known d) k low = drawop_taken d k low.0
 line_taken (Strange d) k low = drawop_taken d k low.0
 line_taken (Mark speaker page mark) k low = state_fault (present k.host) speaker page (mark ∷ []) k (present_is k)
+line_taken (Owner number place owner) k low = ap (λ (b : Bool). first_of (fault_unless b (Host BackInTime) ∷ [])) (present_is k)
 
 -- ---- a call
 

@@ -19,7 +19,7 @@ use Rattle.wb_keeping.specs.Laws.{KeptLine, Added, Came, Ticked}
 use Rattle.wb_keeping.specs.Performing.{Keeping}
 use Rattle.wb_judging.specs.Judged.{Call, CameFrom, Held, Judged, Passed, UserDrew}
 use Rattle.wb_judging.specs.declared.record.RecordLine.{RecordLine}
-use Rattle.wb_judging.specs.declared.record.RecordLine.TheVariants.{Known, Mark, Said, Strange, Tick}
+use Rattle.wb_judging.specs.declared.record.RecordLine.TheVariants.{Known, Mark, Owner, Said, Strange, Tick}
 
 -- ---- what the kept member says of itself, and of a datagram
 
@@ -74,13 +74,14 @@ abbrev pub handed_for : ℕ → Datagram → Option Why → KeptLine
 handed_for now v None = Came now v
 handed_for now v (Some why) = Ticked now
 
--- a line of the record: its drawop, or its mark in a page state; a moment of the past is none of the present
+-- a line of the record: its drawop, or its mark in a page state; a moment of the past is none of the present, and an owner is for the judge
 abbrev pub recalled : ℕ → RecordLine → KeptLine
 recalled now (Tick past) = Ticked now
 recalled now (Said d) = Came now (Draw d)
 recalled now (Known d) = Came now (Draw d)
 recalled now (Strange d) = Came now (Draw d)
 recalled now (Mark speaker page mark) = Came now (PageState speaker page (mark ∷ []))
+recalled now (Owner number place owner) = Ticked now
 
 abbrev pub handed : Call → Judged → KeptLine
 handed (CameFrom now o v) h = handed_for now v (verdict_on now o v h).why

@@ -4,13 +4,13 @@ use Rattle.wb_names.specs.Values.{NameValue}
 use Rattle.wb_codec.specs.declared.datagram.Datagram.{Datagram}
 use Rattle.wb_codec.specs.declared.datagram.Datagram.TheVariants.{AskPages, Draw, PageState, Request, Session}
 use Rattle.wb_judge.specs.Answers.{reported}
-use Rattle.wb_judge.specs.Judge.{Judge, after_taking}
+use Rattle.wb_judge.specs.Judge.{Judge, after_recall, after_taking}
 use Rattle.wb_judge.specs.Strange.{with_given, without_name}
 use Rattle.wb_judge.specs.declared.origin.Origin.{Origin}
 use Rattle.wb_judging.specs.Events.{is_new}
 use Rattle.wb_judging.specs.declared.event.Fate.{Fate}
 use Rattle.wb_judging.specs.declared.record.RecordLine.{RecordLine}
-use Rattle.wb_judging.specs.declared.record.RecordLine.TheVariants.{Known, Mark, Said, Strange, Tick}
+use Rattle.wb_judging.specs.declared.record.RecordLine.TheVariants.{Known, Mark, Owner, Said, Strange, Tick}
 
 -- a report of ours was sent
 abbrev pub after_sending : Datagram → Judge → Judge
@@ -39,9 +39,14 @@ with_strange name j = record j { strange = with_given (record { name = name; ori
 abbrev pub with_members : NameValue → Judge → Judge
 with_members name j = record j { strange = without_name name j.strange }
 
+-- Or it tells who owns a number.
+abbrev pub owned_at : ℕ → ℕ → Origin
+owned_at place owner = record { place = place; owner = Some owner }
+
 abbrev pub after_recalling : RecordLine → Option Fate → Judge → Judge
 after_recalling (Tick past) fate j = j
 after_recalling (Said d) fate j = with_members d.name j
 after_recalling (Known d) fate j = with_members d.name j
 after_recalling (Strange d) fate j = if is_new fate then with_strange d.name j else j
 after_recalling (Mark speaker page mark) fate j = j
+after_recalling (Owner number place owner) fate j = after_recall number (owned_at place owner) j

@@ -1,5 +1,6 @@
 -- What follows for a judged member, whatever comes in.
-use Rattle.std.specs.Prelude.{◌≡◌, ◌⊎◌, ℕ, ◌+◌, ◌≤◌, Bool, true, false, ◌&&◌, List, [], ◌∷◌, ◌++◌, None, Some, All, AllPairs, length, map, nat_eq, nat_le, not}
+use Rattle.std.specs.Prelude.{◌≡◌, ◌⊎◌, ℕ, ◌+◌, ◌≤◌, Bool, true, false, ◌&&◌, List, [], ◌∷◌, ◌++◌, None, Some, All, AllPairs, Contains, filter, length, map, nat_eq, nat_le, not}
+use Rattle.std.specs.List.{list_any}
 use Rattle.wb_names.specs.Arrivals.{history_after}
 use Rattle.wb_names.specs.Values.{DrawopValue}
 use Rattle.wb_names.specs.declared.echo.Echo.{Echo}
@@ -10,12 +11,12 @@ use Rattle.wb_codec.specs.declared.datagram.Datagram.{Datagram}
 use Rattle.wb_codec.specs.declared.datagram.Datagram.TheVariants.{Draw}
 use Rattle.wb_judge.specs.Adding.{own_echo}
 use Rattle.wb_judge.specs.Days.{time_of_day}
-use Rattle.wb_judge.specs.Judge.{is_firm, is_full, knows}
+use Rattle.wb_judge.specs.Judge.{is_firm, is_full, knows, owner_of}
 use Rattle.wb_judge.specs.Judging.{draws}
-use Rattle.wb_judge.specs.Laws.{StandOnce, is_answer}
+use Rattle.wb_judge.specs.Laws.{StandOnce, is_answer, speaker_in}
 use Rattle.wb_judge.specs.Strange.{names_of, row_of}
 use Rattle.wb_judge.specs.Told.{was_told}
-use Rattle.wb_judge.specs.declared.limits.TheConstants.{AHEAD_KNOWN}
+use Rattle.wb_judge.specs.declared.limits.TheConstants.{AHEAD_KNOWN, MOST_OTHERS}
 use Rattle.wb_judge.specs.declared.origin.Origin.{Origin}
 use Rattle.wb_member.specs.Judged.{holds}
 use Rattle.wb_member.specs.Opened.{present}
@@ -30,7 +31,7 @@ use Rattle.wb_judging.specs.Performing.{after_judged, events_of, judging, sent_b
 use Rattle.wb_judging.specs.declared.event.Event.{Event}
 use Rattle.wb_judging.specs.declared.record.Giver.TheVariants.{Others}
 use Rattle.wb_judging.specs.declared.record.RecordLine.{RecordLine}
-use Rattle.wb_judging.specs.declared.record.RecordLine.TheVariants.{Known, Mark, Said, Strange, Tick}
+use Rattle.wb_judging.specs.declared.record.RecordLine.TheVariants.{Known, Mark, Owner, Said, Strange, Tick}
 use Rattle.wb_judging.specs.declared.event.Event.TheVariants.{Became, Dropped, Drew, Fetch, NoDatagram, Record, Send, Warn}
 
 -- ---- a judged member is a kept member
@@ -142,6 +143,7 @@ drawops_in (Said d) = d ∷ []
 drawops_in (Known d) = d ∷ []
 drawops_in (Strange d) = d ∷ []
 drawops_in (Mark speaker page mark) = []
+drawops_in (Owner number place owner) = []
 
 abbrev pub drawops_of : List RecordLine → List DrawopValue
 drawops_of [] = []
@@ -187,6 +189,26 @@ AreCalled (line ∷ lines) h = (call_fault line h ≡ None) × AreCalled lines (
 abbrev pub RecordLinesAreTaken : Type 0
 RecordLinesAreTaken = (lines : List Call) (h anew : Judged) → IsInReach h → AreCalled lines h → anew.kept.host.is.number ≡ h.kept.host.is.number
     → AreCalled (map Held (record_by lines h)) anew
+
+-- Where the network keeps origins: whose report gives a number an owner that had none, is recorded as that owner.
+abbrev pub OwnersAreRecorded : Type 0
+OwnersAreRecorded = (now : ℕ) (o : Origin) (v : Datagram) (h : Judged) (number owner : ℕ) → speaker_in v ≡ Some number → owner_of number h.judge ≡ None
+    → owner_of number (after_judged (CameFrom now o v) h).judge ≡ Some owner → Contains (record_of (CameFrom now o v) h) (Owner number o.place owner)
+
+-- a line of the record names an owner of a number
+abbrev pub names_owner : ℕ → RecordLine → Bool
+names_owner number (Owner n place owner) = nat_eq n number
+names_owner number line = false
+
+abbrev pub is_owner : RecordLine → Bool
+is_owner (Owner number place owner) = true
+is_owner line = false
+
+-- A member that begins anew and is handed a record, which names 1,024 owners at most, knows of each number the first owner that it names.
+abbrev pub OwnersOutliveStarts : Type 0
+OwnersOutliveStarts = (older newer : List RecordLine) (number place owner : ℕ) (anew : Judged) → anew.judge.others ≡ [] → nat_eq number anew.judge.me ≡ false
+    → length (filter is_owner (older ++ Owner number place owner ∷ newer)) ≤ MOST_OTHERS → list_any (names_owner number) older ≡ false
+    → owner_of number (after_all (map Held (older ++ Owner number place owner ∷ newer)) anew).judge ≡ Some owner
 
 -- no line of the record stands after a datagram that is sent
 abbrev pub is_record : Event → Bool

@@ -1,25 +1,28 @@
 -- What of a member is handed in to a kept member, and what that can do without.
-use Rattle.std.specs.Prelude.{◌≡◌, ℕ, ◌+◌, ◌≤◌, ◌&&◌, Bool, true, false, List, length, not}
+use Rattle.std.specs.Prelude.{◌≡◌, ℕ, ◌+◌, ◌<◌, ◌≤◌, ◌&&◌, Bool, true, false, List, None, length, not}
 use Rattle.wb_names.specs.Values.{DrawopValue, MarkValue}
 use Rattle.wb_names.specs.declared.echo.Echo.{Echo}
 use Rattle.wb_names.specs.declared.name.PageId.{PageId}
 use Rattle.wb_codec.specs.declared.datagram.Datagram.{Datagram}
 use Rattle.wb_codec.specs.declared.datagram.Datagram.TheVariants.{AskPages, Draw, PageState, Request, Session}
 use Rattle.wb_judge.specs.Days.{time_of_day}
-use Rattle.wb_judge.specs.Judge.{is_full, knows}
+use Rattle.wb_judge.specs.Judge.{Judge, is_full, knows}
 use Rattle.wb_judge.specs.Judging.{draws}
 use Rattle.wb_judge.specs.Laws.{IsBounded}
 use Rattle.wb_judge.specs.Members.{IsFit, IsSpoken, Speaks, is_hush}
 use Rattle.wb_judge.specs.Origins.{same_origin}
-use Rattle.wb_judge.specs.declared.limits.TheConstants.{AHEAD_KNOWN, SILENCE}
+use Rattle.wb_judge.specs.Others.{other_of}
+use Rattle.wb_judge.specs.declared.limits.TheConstants.{AHEAD_KNOWN, MOST_OTHERS, SILENCE}
 use Rattle.wb_judge.specs.declared.origin.Origin.{Origin}
 use Rattle.wb_member.specs.Judged.{holds}
 use Rattle.wb_member.specs.Opened.{Opened}
 use Rattle.wb_keeping.specs.Laws.{Came}
 use Rattle.wb_judging.specs.Handing.{facts_of, handed}
-use Rattle.wb_judging.specs.Judged.{Call, CameFrom, Judged, Passed}
+use Rattle.wb_judging.specs.Judged.{Call, CameFrom, Held, Judged, Passed, UserDrew}
 use Rattle.wb_judging.specs.News.{LeavesOrigin}
 use Rattle.wb_judging.specs.Performing.{after_judged}
+use Rattle.wb_judging.specs.declared.record.RecordLine.{RecordLine}
+use Rattle.wb_judging.specs.declared.record.RecordLine.TheVariants.{Owner}
 
 -- What a kept member needs to have all that others hold, and to give what it holds: a drawop that it lacks, a request for what it holds, and each report.
 -- It can do without a copy of what it holds, a request for what it lacks, a question and a page state.
@@ -61,11 +64,17 @@ pub record IsMemberUntil (o : Origin) (number until : ℕ) (h : Judged) : Type 0
   pub known : knows o until h.judge ≡ true
   pub speaks : Speaks o number h.judge
 
+-- The record gives an owner to a number only under which nobody was heard yet, while there is room for one more.
+abbrev pub FindsRoom : RecordLine → Judge → Type 0
+FindsRoom (Owner number place owner) j = (other_of number j.others ≡ None) × (length j.others < MOST_OTHERS)
+FindsRoom line j = Unit {0}
+
 -- By a line only members speak, and whoever is gone is another. What comes from the member itself comes no longer than ten minutes before that moment.
 abbrev pub LeavesMember : Origin → ℕ → Call → Judged → Type 0
 LeavesMember o until (CameFrom now p v) h = (knows p now h.judge ≡ true) × IsSpoken p v h.judge × (same_origin p o ≡ true → until ≤ now + SILENCE)
 LeavesMember o until (Passed now news) h = LeavesOrigin o news
-LeavesMember o until call h = Unit {0}
+LeavesMember o until (UserDrew now page op) h = Unit {0}
+LeavesMember o until (Held line) h = FindsRoom line h.judge
 
 -- Such a line leaves it a member.
 abbrev pub MembersStay : Type 0

@@ -14,7 +14,7 @@ use Rattle.wb_judging.specs.Handing.{facts_of, handed, judge_after, verdict_on}
 use Rattle.wb_judging.specs.Hearing.{after_fate, after_recalling, after_sends}
 use Rattle.wb_judging.specs.Judged.{Call, CameFrom, Held, Judged, Passed, giver_of, moment_of}
 use Rattle.wb_judging.specs.News.{after_news, news_events}
-use Rattle.wb_judging.specs.Recording.{freed_lines, gain_lines, mark_lines}
+use Rattle.wb_judging.specs.Recording.{freed_lines, gain_lines, mark_lines, owner_lines}
 use Rattle.wb_judging.specs.declared.event.Event.{Event}
 use Rattle.wb_judging.specs.declared.event.Fate.{Fate}
 use Rattle.wb_judging.specs.declared.record.Giver.{Giver}
@@ -66,10 +66,11 @@ abbrev pub last_events : Call → Judged → List Event
 last_events (CameFrom now o v) h = advice (verdict_on now o v h) (facts_of now v h.kept).lacking
 last_events call h = []
 
--- what is recorded before what the board gained: what the origin gave that has answered by this datagram, and a mark of ours
+-- what is recorded before what the board gained: what the origin gave that has answered by this datagram, a mark of ours, and a new owner
 abbrev pub first_lines : Call → Judged → List RecordLine
 first_lines (CameFrom now o v) h =
-    freed_lines o h.judge.strange.given (judge_after now o v h).strange.given h.kept.host.is.held ++ mark_lines now v (verdict_on now o v h).why h.kept
+    freed_lines o h.judge.strange.given (judge_after now o v h).strange.given h.kept.host.is.held
+    ++ (mark_lines now v (verdict_on now o v h).why h.kept ++ owner_lines o v h.judge (judge_after now o v h))
 first_lines call h = []
 
 -- all that is recorded after these lines, as a kept member does a line at a judge

@@ -6,6 +6,8 @@ use Rattle.wb_names.specs.Values.{DrawopValue, MarkValue, NameValue}
 use Rattle.wb_names.specs.declared.name.PageId.{PageId}
 use Rattle.wb_codec.specs.declared.datagram.Datagram.{Datagram}
 use Rattle.wb_codec.specs.declared.datagram.Datagram.TheVariants.{AskPages, Draw, PageState, Request, Session}
+use Rattle.wb_judge.specs.Judge.{Judge, owner_of}
+use Rattle.wb_judge.specs.Laws.{speaker_in}
 use Rattle.wb_judge.specs.Reports.{mark_in}
 use Rattle.wb_judge.specs.Strange.{given_by, has_name}
 use Rattle.wb_judge.specs.declared.origin.Origin.{Origin}
@@ -16,7 +18,7 @@ use Rattle.wb_keeping.specs.Performing.{Keeping}
 use Rattle.wb_judging.specs.declared.record.Giver.{Giver}
 use Rattle.wb_judging.specs.declared.record.Giver.TheVariants.{Others, Past, User}
 use Rattle.wb_judging.specs.declared.record.RecordLine.{RecordLine}
-use Rattle.wb_judging.specs.declared.record.RecordLine.TheVariants.{Known, Mark, Said, Strange}
+use Rattle.wb_judging.specs.declared.record.RecordLine.TheVariants.{Known, Mark, Owner, Said, Strange}
 
 -- ---- what a board gained
 
@@ -62,3 +64,21 @@ new_mark_of (PageState sender page marks) host = new_mark sender page (mark_in h
 abbrev pub mark_lines : ℕ → Datagram → Option Why → Keeping → List RecordLine
 mark_lines now v None k = if nat_lt now k.policy.ready then option_to_list (new_mark_of v k.host) else []
 mark_lines now v (Some why) k = []
+
+-- ---- owners
+
+-- who owns the number of a speaker, if there is one
+abbrev pub owner_by : Option ℕ → Judge → Option ℕ
+owner_by None j = None
+owner_by (Some number) j = owner_of number j
+
+-- the owner of a number that had none before
+abbrev pub new_owner : Option ℕ → ℕ → Option ℕ → Option ℕ → Option RecordLine
+new_owner None place before after = None
+new_owner (Some number) place None None = None
+new_owner (Some number) place None (Some owner) = Some (Owner number place owner)
+new_owner (Some number) place (Some before) after = None
+
+-- Who speaks in a report owns its number by it, and nobody did before.
+abbrev pub owner_lines : Origin → Datagram → Judge → Judge → List RecordLine
+owner_lines o v before after = option_to_list (new_owner (speaker_in v) o.place (owner_by (speaker_in v) before) (owner_by (speaker_in v) after))

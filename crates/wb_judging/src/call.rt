@@ -28,6 +28,7 @@ pub enum Call {
     },
     /// A line of its record, at the present moment. It is not judged, and not recorded again. A
     /// drawop that no known origin gave counts as a stranger's again, unless the user or a member
-    /// gave it too. A moment changes nothing but what a tick at the present moment does.
+    /// gave it too. A number has the owner again that it had first. A moment changes nothing but what
+    /// a tick at the present moment does.
     Held(RecordLine),
 }

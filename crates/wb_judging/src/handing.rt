@@ -104,7 +104,9 @@ pub(crate) fn recall(
         kept.old kept.new did.held did.sent.items did.fate) }
 {
     match line {
-        RecordLine::Tick(_) => perform(kept, alloc, KeptCall::Ticked { now }),
+        RecordLine::Tick(_) | RecordLine::Owner { .. } => {
+            perform(kept, alloc, KeptCall::Ticked { now })
+        }
         RecordLine::Said(drawop) | RecordLine::Known(drawop) | RecordLine::Strange(drawop) => {
             let datagram = &Datagram::Draw(*drawop);
             perform(kept, alloc, KeptCall::Came { now, datagram })

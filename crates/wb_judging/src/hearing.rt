@@ -1,7 +1,7 @@
 //! What a judge hears of what its kept member did.
 ghost use Rattle.std.specs.Prelude.{◌≡◌};
 ghost use Rattle.wb_judging.specs.Events.{is_new};
-ghost use Rattle.wb_judging.specs.Hearing.{after_fate, after_recalling, after_sending, after_sends};
+ghost use Rattle.wb_judging.specs.Hearing.{after_fate, after_recalling, after_sending, after_sends, owned_at};
 
 use crate::event::Fate;
 use crate::record::RecordLine;
@@ -44,7 +44,7 @@ pub(crate) fn hear_fate(
     }
 }
 
-/// What became of the drawop of a line of the record.
+/// What a line of the record says, and what became of its drawop.
 pub(crate) fn hear_recalled(judge: &mut Judge, line: &RecordLine, fate: Option<Fate>)
     ensures { judge.new ≡ after_recalling line.now fate judge.old }
 {
@@ -56,6 +56,21 @@ pub(crate) fn hear_recalled(judge: &mut Judge, line: &RecordLine, fate: Option<F
                 judge.remember(drawop.name());
             }
         }
+        RecordLine::Owner {
+            number,
+            place,
+            owner,
+        } => judge.recall(*number, owned_at(*place, *owner)),
+    }
+}
+
+/// A place that this owner has.
+fn owned_at(place: u64, owner: u64) -> Origin
+    ensures { result ≡ owned_at place owner }
+{
+    Origin {
+        place,
+        owner: Some(owner),
     }
 }
 

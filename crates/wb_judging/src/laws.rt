@@ -2,7 +2,7 @@
 //! stands here for its clause.
 
 ghost use Rattle.wb_judging.specs.Since.{SincePatches};
-ghost use Rattle.wb_judging.specs.Laws.{ItBeginsAgain, JudgedMembersAreKept, MembersAreHandedIn, RecordLinesAreTaken, NobodyMovesOurTime, OnlyAnswersMakeKnown, OthersHearTheSame, RecordsComeFirst, SendsAsKept, StrangersHushNobody, StrangersLeaveNoHoles, TheNetworkRefusesNothing, TheRecordIsTheBoard, TheSameOrATick};
+ghost use Rattle.wb_judging.specs.Laws.{ItBeginsAgain, JudgedMembersAreKept, MembersAreHandedIn, RecordLinesAreTaken, NobodyMovesOurTime, OnlyAnswersMakeKnown, OthersHearTheSame, OwnersAreRecorded, OwnersOutliveStarts, RecordsComeFirst, SendsAsKept, StrangersHushNobody, StrangersLeaveNoHoles, TheNetworkRefusesNothing, TheRecordIsTheBoard, TheSameOrATick};
 ghost use Rattle.wb_judging.specs.Members.{EachKindIsHandedIn, MembersAreKnownAgain, MembersStay, NeededIsHandedIn, OthersDrawopsAreFit, ReportsAreFit};
 
 /// A judged member is a kept member that was handed one line in the place of each: the same line,
@@ -36,6 +36,14 @@ pub fn the_record_is_the_board()
 pub fn it_begins_again()
     ensures alike { ItBeginsAgain }
     ensures taken { RecordLinesAreTaken }
+{}
+
+/// Whose report gives a number an owner that had none is recorded as that owner, and a member that
+/// begins anew and is handed a record knows of each number the first owner that it names, if there
+/// are 1,024 at most. So nobody else speaks under that number, also if it answers first.
+pub fn owners_outlive_starts()
+    ensures recorded { OwnersAreRecorded }
+    ensures known { OwnersOutliveStarts }
 {}
 
 /// A member's drawop is handed in if it is not ours, is no more than a day ahead, and has a cell.

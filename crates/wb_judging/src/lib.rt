@@ -12,8 +12,8 @@
 //! In reading order: `call` has what happens to a member, `news` what its judge hears as time goes
 //! on, and `event` what follows from it; `facts` is what the kept member says of a datagram, for the
 //! judge; `handing` hands it a line, and the judge hears in `hearing` what it did; `echoing` is the
-//! echo under our own number that a report has besides; `record` is what is recorded; `weighing` has
-//! a datagram judged; `telling` makes events; `since` compares what a page shows with what it showed,
+//! echo under our own number that a report has besides; `record` is what is recorded; `owners` are
+//! those of numbers; `weighing` has a datagram judged; `telling` makes events; `since` compares what a page shows with what it showed,
 //! and `missing` counts what a page lacks; `judged_member` joins them.
 //! `laws` says what follows, and `specs/Handing.antt` and `specs/Performing.antt` what each call
 //! does.
@@ -30,6 +30,7 @@ mod judged_member;
 pub mod laws;
 mod missing;
 mod news;
+mod owners;
 mod record;
 mod since;
 mod telling;

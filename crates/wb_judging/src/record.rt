@@ -24,6 +24,12 @@ pub enum RecordLine {
         page: PageId,
         mark: Mark,
     },
+    /// A number has this owner, who answered under it first, from this place.
+    Owner {
+        number: u32,
+        place: u64,
+        owner: u64,
+    },
 }
 
 /// Who gives what a board gains by a call.

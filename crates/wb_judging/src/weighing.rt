@@ -7,10 +7,11 @@ ghost use Rattle.wb_names.specs.Orders.{same_name};
 ghost use Rattle.wb_judge.specs.Judging.{after_judging, verdict};
 ghost use Rattle.wb_judge.specs.Reports.{mark_in};
 ghost use Rattle.wb_keeping.specs.Performing.{IsKeptAt, Keeping};
-ghost use Rattle.wb_judging.specs.Recording.{freed_lines, mark_lines, named, new_mark, new_mark_of};
+ghost use Rattle.wb_judging.specs.Recording.{freed_lines, mark_lines, named, new_mark, new_mark_of, owner_lines};
 ghost use Rattle.wb_judging.specs.declared.record.RecordLine.TheVariants.{Known};
 
 use crate::facts::is_raising;
+use crate::owners::{add_owner, owner_by, speaker_in};
 use crate::record::RecordLine;
 use std::alloc::{AllocError, Global};
 use wb_codec::Datagram;
@@ -41,13 +42,18 @@ pub(crate) fn weigh(
         verdict origin datagram.now facts.now judge.old) }
     ensures lines { IfOk result (λ w. (k : Keeping) → IsKeptAt kept.now k → w.lines.items ≡
         freed_lines origin judge.old.strange.given judge.new.strange.given k.host.is.held
-        ++ mark_lines facts.now.at datagram.now w.verdict.why k) }
+        ++ (mark_lines facts.now.at datagram.now w.verdict.why k
+        ++ owner_lines origin datagram.now judge.old judge.new)) }
 {
+    let speaker = speaker_in(datagram);
+    let owner = owner_by(judge, speaker);
     let names = judge.strange().given_by(alloc, origin)?;
     let before = judge.strange().len();
     let verdict = judge.judge(origin, datagram, facts);
     let mut lines = freed_lines(alloc, &names, judge.strange().len() < before, kept)?;
     add_mark(&mut lines, kept, facts.at, datagram, verdict.why)?;
+    let after = owner_by(judge, speaker);
+    add_owner(&mut lines, speaker, origin.place, owner, after)?;
     Ok(Weighed { verdict, lines })
 }
 
