@@ -20,10 +20,8 @@ use Rattle.wb_judging.specs.declared.call.Call.TheVariants.{CameFrom, Held, Pass
 use Rattle.wb_judging.proofs.AsKept.{sends_as_kept}
 use Rattle.wb_judging.proofs.Numbers.{me_judging}
 use Rattle.wb_laws_sessions.proofs.Sending.{one_of}
-use Rattle.wb_laws_kept.specs.Sessions.{Begins, Call as KeptCall, Handed}
-use Rattle.wb_judged_sessions.specs.Sessions.{plain_line, JudgedCall, Starts, Takes, Tunes, sent_by}
+use Rattle.wb_judged_sessions.specs.Calls.{IsLineTaken, IsTaken, JudgedCall, plain_line, sent_by, Starts, Takes, Tunes}
 use Rattle.wb_laws_machines.specs.Maps.{plain, HasSame, below}
-use Rattle.wb_judged_sessions.specs.Terms.{IsLineTaken, IsTaken}
 use Rattle.wb_judged_sessions.proofs.Echoes.{call_sends, plain_again}
 use Rattle.wb_judged_sessions.proofs.Plain.{plain_sent}
 use Rattle.wb_judged_sessions.proofs.Sent.{echo_mine}
@@ -35,6 +33,7 @@ use Rattle.wb_laws_machines.specs.Times.{IsMapInTime}
 use Rattle.wb_judged_sessions.proofs.Judged.{judged_is_map, kept_sends, plain_twice}
 use Rattle.wb_laws_machines.proofs.Mapped.{member_below}
 use Rattle.wb_laws_machines.proofs.Times.{keeps_time_below}
+use Rattle.wb_laws_kept.specs.Calls.{Begins, Call as KeptCall, Handed}
 
 -- the one call below; of a start it is the first
 abbrev one : JudgedCall → Judged → KeptCall

@@ -33,14 +33,12 @@ use Rattle.wb_laws_sessions.specs.Members.{Does, member, new_where}
 use Rattle.wb_laws_sessions.proofs.Deeds.{deed_draws}
 use Rattle.wb_laws_kept.specs.Kept.{kept}
 use Rattle.wb_laws_kept.specs.Openings.{Opening, opened}
-use Rattle.wb_laws_kept.specs.Restarts.{drawops_in}
-use Rattle.wb_laws_kept.specs.Sessions.{Begins, Call as KeptCall, Handed}
 use Rattle.wb_laws_kept.proofs.Honest.{moments_given}
 use Rattle.wb_laws_kept.proofs.Kept.{kept_is_map}
 use Rattle.wb_laws_kept.proofs.Replaying.{lines_stay, none}
 use Rattle.wb_laws_kept.proofs.Restarting.{line_grows}
 use Rattle.wb_judged_sessions.specs.Judged.{judged}
-use Rattle.wb_judged_sessions.specs.Sessions.{JudgedCall, Start, Starts, Takes, Tunes, plain_line}
+use Rattle.wb_judged_sessions.specs.Calls.{JudgedCall, plain_line, Start, Starts, Takes, Tunes}
 use Rattle.wb_judged_sessions.proofs.Judged.{judged_is_map, line_draws}
 use Rattle.wb_judged_sessions.proofs.Records.{IsFile, call_files, start_cells, start_held}
 use Rattle.wb_host_sessions.specs.Hosts.{AnyHost, Driven, Drives, HostEvent, JudgedHost, Judges, Keeps, Kept, Sets, after_event, hosts, judged_state, kept_state, member_of}
@@ -48,6 +46,7 @@ use Rattle.wb_host_sessions.specs.Records.{BoardsAreFiles, KeepRecords, KeepsRec
 use Rattle.wb_host_sessions.specs.Sessions.{DrawsAnew, KeepTo, PlaceKnowsItsOwn}
 use Rattle.wb_host_sessions.proofs.Hosts.{hosts_are_lawful}
 use Rattle.wb_host_sessions.proofs.Sessions.{hosts_agree, hosts_are_honest, judged_number, kept_number}
+use Rattle.wb_laws_kept.specs.Calls.{Begins, Call as KeptCall, drawops_in, Handed}
 
 -- ---- one line of a self-managing host
 

@@ -12,8 +12,7 @@ use Rattle.wb_keeping.specs.Performing.{Keeping, view_of}
 use Rattle.wb_judging.specs.Handing.{handed}
 use Rattle.wb_judging.specs.Judged.{Judged as JudgedState}
 use Rattle.wb_member.specs.Opened.{Opened, becomes, last_number, ticked}
-use Rattle.wb_laws_kept.specs.Sessions.{Begins, Call as KeptCall, Handed}
-use Rattle.wb_judged_sessions.specs.Sessions.{plain_line, JudgedCall, Starts, Takes, Tunes}
+use Rattle.wb_judged_sessions.specs.Calls.{JudgedCall, plain_line, Starts, Takes, Tunes}
 use Rattle.wb_laws_machines.specs.Honest.{IsAbove, IsOn}
 use Rattle.wb_host_sessions.specs.Hosts.{Drives, Driven, AnyHost, HostEvent, JudgedHost, Judges, Keeps, Kept, Sets, hosts, judged_state, kept_state, member_of}
 use Rattle.wb_judged_sessions.specs.Judged.{judged}
@@ -25,7 +24,7 @@ use Rattle.wb_laws_machines.proofs.Drawn.{each_was_drawn, number_at}
 use Rattle.wb_laws_machines.proofs.Honest.{honest_below}
 use Rattle.wb_host_sessions.proofs.Hosts.{hosts_are_lawful}
 use Rattle.wb_judged_sessions.proofs.Judged.{line_draws}
-use Rattle.wb_laws_sessions.proofs.Drawn.{behind, new_is}
+use Rattle.wb_laws_sessions.proofs.Drawn.{new_is}
 use Rattle.wb_laws_machines.proofs.Agreeing.{reports_tell_agreement}
 use Rattle.wb_laws_sessions.specs.Members.{member}
 use Rattle.wb_laws_sessions.proofs.Members.{member_is_lawful, members_are_small}
@@ -33,6 +32,7 @@ use Rattle.wb_laws_sessions.proofs.Sent.{sent_was_held}
 use Rattle.wb_host_sessions.specs.Members.{hosts_map}
 use Rattle.wb_laws_machines.proofs.Mapped.{drawn_below, held_below, member_below, sent_below, small_above, taken_below}
 use Rattle.wb_host_sessions.proofs.Members.{hosts_do}
+use Rattle.wb_laws_kept.specs.Calls.{Begins, Call as KeptCall, Handed}
 
 -- ---- a self-managing host counts on
 
@@ -122,7 +122,7 @@ sent_was_drawn numbers trace page d taken honest here c =
     let same = sent_below hosts_do numbers trace taken (Draw d) c in
     let was = sent_was_held numbers low d (subst (Contains (sent member numbers low)) (same_draw same.0 d same.2) same.1) in
     let drawn = each_was_drawn member numbers (IsOn page) member_is_lawful low (honest_below hosts_do hosts_are_lawful numbers (IsOn page) trace honest)
-    was.older (behind numbers low was.newer was.older was.split) was.place d here was.held in
+    was.older was.behind was.place d here was.held in
     (drawn.0, drawn.1, subst (λ (ds : List DrawopValue). Contains ds d) (drawn_below hosts_do numbers trace drawn.0) drawn.2)
 
 pub hosts_are_members : HostsAreMembers

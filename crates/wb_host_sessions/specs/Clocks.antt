@@ -8,12 +8,12 @@ use Rattle.wb_judging.specs.Handing.{handed}
 use Rattle.wb_judging.specs.Judged.{Judged}
 use Rattle.wb_judging.specs.declared.call.Call.{Call}
 use Rattle.wb_judging.specs.declared.call.Call.TheVariants.{CameFrom, Held, Passed, UserDrew}
-use Rattle.wb_laws_kept.specs.Sessions.{Begins, Call as KeptCall, Handed}
-use Rattle.wb_judged_sessions.specs.Sessions.{JudgedCall, Starts, Takes, Tunes}
+use Rattle.wb_judged_sessions.specs.Calls.{JudgedCall, Starts, Takes, Tunes}
 use Rattle.wb_judged_sessions.specs.Judged.{judged}
 use Rattle.wb_laws_kept.specs.Kept.{kept}
 use Rattle.wb_laws_machines.specs.Machines.{At, member_at}
 use Rattle.wb_laws_machines.specs.Times.{Clocked, KeepsTime}
+use Rattle.wb_laws_kept.specs.Calls.{Begins, Call as KeptCall, Handed}
 
 abbrev pub heard_in : KeptLine → List Datagram
 heard_in (Came now v) = v ∷ []

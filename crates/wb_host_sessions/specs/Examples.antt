@@ -13,13 +13,13 @@ use Rattle.wb_judging.specs.declared.call.Call.TheVariants.{CameFrom}
 use Rattle.wb_judging.specs.declared.record.RecordLine.{RecordLine}
 use Rattle.wb_judging.specs.declared.record.RecordLine.TheVariants.{Strange, Tick}
 use Rattle.wb_laws_sessions.specs.Members.{Does, Opens}
-use Rattle.wb_laws_kept.specs.Sessions.{Begins, Handed}
 use Rattle.wb_judged_sessions.specs.Examples.{deletes, numbers, page, somewhere, start}
 use Rattle.wb_laws_machines.specs.Honest.{AreApart}
 use Rattle.wb_host_sessions.specs.Hosts.{Drives, HostEvent, Judges, Keeps, hosts}
-use Rattle.wb_judged_sessions.specs.Sessions.{Starts, Takes, Tunes}
+use Rattle.wb_judged_sessions.specs.Calls.{Starts, Takes, Tunes}
 use Rattle.wb_laws_machines.specs.Machines.{AreTaken, At, member_at}
 use Rattle.wb_host_sessions.specs.Records.{KeepRecords}
+use Rattle.wb_laws_kept.specs.Calls.{Begins, Handed}
 
 abbrev pub drawing : DrawopValue
 drawing = record { name = name_of page 10 1; time = 5; op = deletes }

@@ -6,11 +6,11 @@ use Rattle.wb_judging.specs.Judged.{Judged as JudgedState}
 use Rattle.wb_member.specs.Opened.{Opened, present}
 use Rattle.wb_policy.specs.Policy.{begun}
 use Rattle.wb_laws_sessions.specs.Members.{Deed, unopened, member}
-use Rattle.wb_laws_kept.specs.Sessions.{Call as KeptCall}
-use Rattle.wb_judged_sessions.specs.Sessions.{unstarted, JudgedCall}
+use Rattle.wb_judged_sessions.specs.Calls.{JudgedCall, unstarted}
 use Rattle.wb_judged_sessions.specs.Judged.{judged}
 use Rattle.wb_laws_kept.specs.Kept.{kept, unkept}
 use Rattle.wb_laws_machines.specs.Machines.{Machine}
+use Rattle.wb_laws_kept.specs.Calls.{Call as KeptCall}
 
 pub data AnyHost : Type 0 where
   Driven : Opened → AnyHost

@@ -5,7 +5,7 @@ use Rattle.wb_laws_machines.specs.Maps.{Map, both}
 use Rattle.wb_laws_sessions.specs.Members.{Deed, Opens}
 use Rattle.wb_laws_kept.specs.Kept.{kept, kept_map}
 use Rattle.wb_host_sessions.specs.Hosts.{Drives, Driven, AnyHost, HostEvent, JudgedHost, Judges, Keeps, Kept, Sets, judged_state, kept_state, member_of}
-use Rattle.wb_judged_sessions.specs.Sessions.{JudgedCall}
+use Rattle.wb_judged_sessions.specs.Calls.{JudgedCall}
 use Rattle.wb_judged_sessions.specs.Judged.{judged_map}
 use Rattle.wb_judging.specs.Judged.{Judged as JudgedState}
 

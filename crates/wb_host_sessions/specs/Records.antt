@@ -5,14 +5,13 @@ use Rattle.wb_names.specs.Values.{DrawopValue}
 use Rattle.wb_names.specs.declared.name.PageId.{PageId}
 use Rattle.wb_judging.specs.Laws.{drawops_of}
 use Rattle.wb_judging.specs.declared.record.RecordLine.{RecordLine}
-use Rattle.wb_laws_kept.specs.Restarts.{drawops_in}
-use Rattle.wb_laws_kept.specs.Sessions.{Begins, Handed}
 use Rattle.wb_laws_machines.specs.Honest.{AreApart}
 use Rattle.wb_laws_machines.specs.Machines.{AreTaken, At, WasHeld, drawn_at, state_at}
-use Rattle.wb_judged_sessions.specs.Sessions.{Start, Starts, Takes, Tunes}
+use Rattle.wb_judged_sessions.specs.Calls.{Start, Starts, Takes, Tunes}
 use Rattle.wb_judged_sessions.specs.Terms.{file_after as judged_file_after}
 use Rattle.wb_host_sessions.specs.Hosts.{AnyHost, Drives, HostEvent, Judges, Keeps, Sets, hosts, judged_state, member_of}
 use Rattle.wb_host_sessions.specs.Sessions.{DrawsAnew, KeepTo, ReportsTell}
+use Rattle.wb_laws_kept.specs.Calls.{Begins, drawops_in, Handed}
 
 -- among these is each drawop of a page that a place drew, by all its programs
 abbrev pub HasItsOwn : PageId → (ℕ → ℕ) → List (At HostEvent) → ℕ → List DrawopValue → Type 0

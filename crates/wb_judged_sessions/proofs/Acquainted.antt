@@ -26,7 +26,8 @@ use Rattle.wb_judged_sessions.specs.Answering.{HasRoomFor, IsInTime, IsSentAfter
 use Rattle.wb_judged_sessions.specs.Examples.{at, numbers, start}
 use Rattle.wb_judged_sessions.specs.Meeting.{answered, echo, no_page, origin_of, reports}
 use Rattle.wb_judged_sessions.specs.Acquainted.{IsAnswered, TwinsHaveMet, answer, first_report, one_answers, one_sees, second_answer, second_report, twins}
-use Rattle.wb_judged_sessions.specs.Sessions.{Starts, Takes, judged_at}
+use Rattle.wb_judged_sessions.specs.Calls.{Starts, Takes}
+use Rattle.wb_judged_sessions.specs.Sessions.{judged_at}
 use Rattle.wb_judged_sessions.specs.Terms.{AreTaken}
 use Rattle.wb_judged_sessions.specs.Twins.{IsOfTwin, RemembersTwin}
 use Rattle.wb_judged_sessions.proofs.Answered.{they_come_to_know}

@@ -22,7 +22,8 @@ use Rattle.wb_judging.specs.Laws.{sends_in}
 use Rattle.wb_judging.specs.Performing.{after_judged, events_of}
 use Rattle.wb_judged_sessions.specs.Answering.{IsInTime, TheyComeToKnow, last_taken}
 use Rattle.wb_judged_sessions.specs.Knowing.{IsKnownSince}
-use Rattle.wb_judged_sessions.specs.Sessions.{JudgedCall, JudgedCallAt, Takes, after_call, judged_at}
+use Rattle.wb_judged_sessions.specs.Calls.{after_call, JudgedCall, Takes}
+use Rattle.wb_judged_sessions.specs.Sessions.{At, judged_at}
 use Rattle.wb_judged_sessions.specs.Terms.{AreTaken}
 use Rattle.wb_judged_sessions.proofs.Answering.{answers_are_handed_in, answers_make_known}
 use Rattle.wb_judged_sessions.proofs.Echoed.{last_taken_is_echoed}
@@ -44,18 +45,18 @@ answers_in_time heard moment now j e t sent held =
 
 -- ---- a call
 
-pub taken_part : (numbers : ℕ → ℕ) (calls later older : List JudgedCallAt) → calls ≡ later ++ older → AreTaken numbers calls → AreTaken numbers older
+pub taken_part : (numbers : ℕ → ℕ) (calls later older : List (At JudgedCall)) → calls ≡ later ++ older → AreTaken numbers calls → AreTaken numbers older
 taken_part numbers calls later older split taken = part later (subst (AreTaken numbers) split taken) where
-  part : (later : List JudgedCallAt) → AreTaken numbers (later ++ older) → AreTaken numbers older
+  part : (later : List (At JudgedCall)) → AreTaken numbers (later ++ older) → AreTaken numbers older
   part [] taken = taken
   part (e ∷ later) taken = part later taken.1
 
-pub after_it : (numbers : ℕ → ℕ) (calls : List JudgedCallAt) (e : JudgedCallAt) (line : Call) → e.call ≡ Takes line → judged_at numbers (e ∷ calls) e.place ≡ after_judged line (judged_at numbers calls e.place)
+pub after_it : (numbers : ℕ → ℕ) (calls : List (At JudgedCall)) (e : At JudgedCall) (line : Call) → e.event ≡ Takes line → judged_at numbers (e ∷ calls) e.place ≡ after_judged line (judged_at numbers calls e.place)
 after_it numbers calls e line takes =
     let h = judged_at numbers calls e.place in
-    ap (λ (b : Bool). cond b (after_call e.call h) h) (eq-eqb e.place e.place refl) ∙ ap (λ (call : JudgedCall). after_call call h) takes
+    ap (λ (b : Bool). cond b (after_call e.event h) h) (eq-eqb e.place e.place refl) ∙ ap (λ (call : JudgedCall). after_call call h) takes
 
-pub me_at : (numbers : ℕ → ℕ) (calls : List JudgedCallAt) (place : ℕ) → (judged_at numbers calls place).judge.me ≡ numbers place
+pub me_at : (numbers : ℕ → ℕ) (calls : List (At JudgedCall)) (place : ℕ) → (judged_at numbers calls place).judge.me ≡ numbers place
 me_at numbers calls place = own_at numbers calls place ∙ number_at numbers calls place
 
 -- ---- the reports

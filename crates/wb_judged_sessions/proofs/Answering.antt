@@ -40,7 +40,8 @@ use Rattle.wb_judging.specs.Performing.{after_judged}
 use Rattle.wb_judging.proofs.MembersIn.{each_kind_is_handed_in}
 use Rattle.wb_judged_sessions.specs.Answering.{AnswersAreHandedIn, AnswersMakeKnown, HasRoomFor, IsLeftKnown, KnownAreHandedIn, KnownGoOn, heard_at, heard_by_call, heard_by_line, is_report_of}
 use Rattle.wb_judged_sessions.specs.Knowing.{IsKnownSince, is_heard_since, is_known_since}
-use Rattle.wb_judged_sessions.specs.Sessions.{JudgedCall, Starts, Takes, Tunes, after_call, judged_at}
+use Rattle.wb_judged_sessions.specs.Calls.{after_call, JudgedCall, Starts, Takes, Tunes}
+use Rattle.wb_judged_sessions.specs.Sessions.{judged_at}
 use Rattle.wb_judged_sessions.proofs.Numbers.{hear_others, of_entry, said_now}
 use Rattle.wb_judged_sessions.proofs.Origins.{from_there}
 use Rattle.wb_judged_sessions.proofs.Records.{number_at}
@@ -303,6 +304,6 @@ known_go_on numbers o number place since (e ∷ newer) older another m left = by
   goes (Tunes constants) l rest = rest
 
   by : (b : Bool) → nat_eq e.place place ≡ b → IsKnownSince o number before h.judge
-      → IsKnownSince o number (cond b (heard_by_call o number e.call h before) before) (let k : Judged = cond b (after_call e.call h) h in k.judge)
+      → IsKnownSince o number (cond b (heard_by_call o number e.event h before) before) (let k : Judged = cond b (after_call e.event h) h in k.judge)
   by false is rest = rest
-  by true is rest = goes e.call (left.0 (eqb-true e.place place is)) rest
+  by true is rest = goes e.event (left.0 (eqb-true e.place place is)) rest

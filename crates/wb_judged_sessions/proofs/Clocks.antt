@@ -18,13 +18,15 @@ use Rattle.wb_judging.specs.declared.record.RecordLine.{RecordLine}
 use Rattle.wb_laws_kept.specs.Openings.{opened_host}
 use Rattle.wb_kept_progress.proofs.Moments.{moment_of as kept_moment, told_itself}
 use Rattle.wb_kept_progress.proofs.StillCalls.{IsTuning, call_now}
-use Rattle.wb_judged_sessions.specs.Sessions.{JudgedCall, JudgedCallAt, Starts, Takes, Tunes, after_call, judged_at, started}
-use Rattle.wb_judged_sessions.specs.Terms.{AreLinesTaken, AreTaken, IsLineTaken, IsTaken}
-use Rattle.wb_judged_sessions.specs.Timely.{AreFittingSince, AreInOrder, IsFittingSince, called_at}
+use Rattle.wb_judged_sessions.specs.Calls.{after_call, AreLinesTaken, IsLineTaken, IsTaken, JudgedCall, started, Starts, Takes, Tunes}
+use Rattle.wb_judged_sessions.specs.Sessions.{At, judged_at}
+use Rattle.wb_judged_sessions.specs.Terms.{AreTaken}
+use Rattle.wb_judged_sessions.specs.Timely.{AreFittingSince, IsFittingSince}
 use Rattle.wb_judged_sessions.proofs.Records.{number_at}
 use Rattle.wb_judged_sessions.proofs.Reporting.{IsDueSoon, due_soon, first_soon}
 use Rattle.wb_judged_sessions.proofs.Terms.{IsOwn, fault_none, own_at}
 use Rattle.wb_judged_sessions.proofs.Timely.{present_recalled, recalled_now}
+use Rattle.wb_kept_progress.specs.Timed.{AreInOrder, time_of}
 
 -- ---- one line
 
@@ -66,9 +68,9 @@ record_due (line ∷ given) h taken soon = record_due given (after_judged (Held 
 -- ---- calls
 
 module _ (numbers : ℕ → ℕ) (terms : Terms) where
-  pub present_at : (calls : List JudgedCallAt) (i : ℕ) → AreFittingSince terms numbers i calls → AreInOrder calls → present (judged_at numbers calls i).kept.host + terms.lag i ≤ called_at calls
+  pub present_at : (calls : List (At JudgedCall)) (i : ℕ) → AreFittingSince terms numbers i calls → AreInOrder calls → present (judged_at numbers calls i).kept.host + terms.lag i ≤ time_of calls
   present_at [] i fitting order = absurd fitting
-  present_at (e ∷ older) i fitting order = by (λ fits. let le = present_at older i fits order.1 in let o = order.0 in omega (arith, le, o)) (nat_eq e.place i) refl e.call fitting where
+  present_at (e ∷ older) i fitting order = by (λ fits. let le = present_at older i fits order.1 in let o = order.0 in omega (arith, le, o)) (nat_eq e.place i) refl e.event fitting where
     h : Judged
     h = judged_at numbers older i
 
@@ -86,9 +88,9 @@ module _ (numbers : ℕ → ℕ) (terms : Terms) where
         line_present line h (terms.lag i) e.time there.not_ahead (before fits.1)
     by before true here (Tunes constants) fits = before fits.1
 
-  pub due_at : (calls : List JudgedCallAt) (i : ℕ) → AreFittingSince terms numbers i calls → AreTaken numbers calls → IsDueSoon (judged_at numbers calls i).kept
+  pub due_at : (calls : List (At JudgedCall)) (i : ℕ) → AreFittingSince terms numbers i calls → AreTaken numbers calls → IsDueSoon (judged_at numbers calls i).kept
   due_at [] i fitting taken = absurd fitting
-  due_at (e ∷ older) i fitting taken = by (λ fits. due_at older i fits taken.1) (nat_eq e.place i) refl e.call fitting taken.0 where
+  due_at (e ∷ older) i fitting taken = by (λ fits. due_at older i fits taken.1) (nat_eq e.place i) refl e.event fitting taken.0 where
     h : Judged
     h = judged_at numbers older i
 

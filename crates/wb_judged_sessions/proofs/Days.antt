@@ -41,8 +41,9 @@ use Rattle.wb_kept_progress.proofs.Onward.{call_later}
 use Rattle.wb_kept_progress.proofs.Performed.{adds_begin}
 use Rattle.wb_kept_progress.proofs.StillCalls.{came_now, no_ticks_stand}
 use Rattle.wb_judged_sessions.specs.Days.{HeldIsNear, NeverADayBack, OursAreInOrder, OursLieAbove, latest_after, latest_before, day_of, day_of_record, latest_at, recalled_by, tells_day}
-use Rattle.wb_judged_sessions.specs.Sessions.{JudgedCall, JudgedCallAt, Start, Starts, Takes, Tunes, after_call, drawn_by, drawn_by_line, judged_at}
-use Rattle.wb_judged_sessions.specs.Terms.{AreTaken, IsItsFile, IsLineTaken, IsTaken, KeepFiles, file_at}
+use Rattle.wb_judged_sessions.specs.Calls.{after_call, drawn_by, drawn_by_line, IsLineTaken, IsTaken, JudgedCall, Start, Starts, Takes, Tunes}
+use Rattle.wb_judged_sessions.specs.Sessions.{At, judged_at}
+use Rattle.wb_judged_sessions.specs.Terms.{AreTaken, file_at, IsItsFile, KeepFiles}
 use Rattle.wb_judged_sessions.proofs.Above.{IsWithin, drawn_after, drawn_at_most, later_within, let_in, within_more}
 use Rattle.wb_judged_sessions.proofs.Drawn.{gained_added, held_added, its}
 use Rattle.wb_judged_sessions.proofs.Records.{boards_are_files, files_are_whole, own_held, start_cells, start_held}
@@ -155,7 +156,7 @@ in_record (x ∷ ds) d c = ⊎_elim
 filled : (line : RecordLine) (file : List RecordLine) → line ∷ file ≡ [] → ⊥
 filled line file is = cc
 
-module _ (numbers : ℕ → ℕ) (older : List JudgedCallAt) (i : ℕ) where
+module _ (numbers : ℕ → ℕ) (older : List (At JudgedCall)) (i : ℕ) where
   abbrev h : Judged
   h = judged_at numbers older i
 
@@ -203,14 +204,14 @@ module _ (numbers : ℕ → ℕ) (older : List JudgedCallAt) (i : ℕ) where
   call_within (Tunes constants) keeps each = later_within latest (max latest (day_of h)) (held_by h) (omega arith) each
 
 module _ (numbers : ℕ → ℕ) where
-  all_within : (calls : List JudgedCallAt) (i : ℕ) → KeepFiles numbers calls → IsWithin (latest_at numbers calls i) (held_by (judged_at numbers calls i))
+  all_within : (calls : List (At JudgedCall)) (i : ℕ) → KeepFiles numbers calls → IsWithin (latest_at numbers calls i) (held_by (judged_at numbers calls i))
   all_within [] i keep = λ d c. absurd (Contains-none d c)
   all_within (e ∷ older) i keep = by (nat_eq e.place i) refl (all_within older i keep.1) where
     by : (b : Bool) → nat_eq e.place i ≡ b → IsWithin (latest_at numbers older i) (held_by (judged_at numbers older i))
-        → IsWithin (cond b (latest_after e.call (file_at numbers older i) (judged_at numbers older i) (latest_at numbers older i)) (latest_at numbers older i))
-        (held_by (cond b (after_call e.call (judged_at numbers older i)) (judged_at numbers older i)))
+        → IsWithin (cond b (latest_after e.event (file_at numbers older i) (judged_at numbers older i) (latest_at numbers older i)) (latest_at numbers older i))
+        (held_by (cond b (after_call e.event (judged_at numbers older i)) (judged_at numbers older i)))
     by true is each =
-        call_within numbers older i e.call (λ start given called. subst (λ (p : ℕ). IsItsFile numbers older p start given) (eqb-true e.place i is) (keep.0 start given called)) each
+        call_within numbers older i e.event (λ start given called. subst (λ (p : ℕ). IsItsFile numbers older p start given) (eqb-true e.place i is) (keep.0 start given called)) each
     by false is each = each
 
 pub held_is_near : HeldIsNear
@@ -257,14 +258,14 @@ module _ (numbers : ℕ → ℕ) where
   call_small (Takes line) h other taken small = let is = cells_line line h in omega (arith, small, is)
   call_small (Tunes constants) h other taken small = small
 
-  small_at : (calls : List JudgedCallAt) (i : ℕ) → AreTaken numbers calls → cells_of (judged_at numbers calls i) ≤ MAX_CELLS
+  small_at : (calls : List (At JudgedCall)) (i : ℕ) → AreTaken numbers calls → cells_of (judged_at numbers calls i) ≤ MAX_CELLS
   small_at [] i taken = omega arith
   small_at (e ∷ older) i taken = by (nat_eq e.place i) (small_at older i taken.1) where
-    by : (b : Bool) → cells_of (judged_at numbers older i) ≤ MAX_CELLS → cells_of (cond b (after_call e.call (judged_at numbers older i)) (judged_at numbers older i)) ≤ MAX_CELLS
-    by true small = call_small e.call (judged_at numbers older i) (judged_at numbers older e.place) taken.0 small
+    by : (b : Bool) → cells_of (judged_at numbers older i) ≤ MAX_CELLS → cells_of (cond b (after_call e.event (judged_at numbers older i)) (judged_at numbers older i)) ≤ MAX_CELLS
+    by true small = call_small e.event (judged_at numbers older i) (judged_at numbers older e.place) taken.0 small
     by false small = small
 
-  few_at : (calls : List JudgedCallAt) (i : ℕ) → AreTaken numbers calls → length (held_by (judged_at numbers calls i)) ≤ MAX_CELLS
+  few_at : (calls : List (At JudgedCall)) (i : ℕ) → AreTaken numbers calls → length (held_by (judged_at numbers calls i)) ≤ MAX_CELLS
   few_at calls i taken =
       let h = judged_at numbers calls i in
       let small = small_at calls i taken in
@@ -272,17 +273,17 @@ module _ (numbers : ℕ → ℕ) where
       let few = few_after (cells_of h) [] (drawops_of (file_at numbers calls i)) (omega arith) in
       omega (arith, small, is, few)
 
-  soon_at : (calls : List JudgedCallAt) (i : ℕ) → AreTaken numbers calls → NeverADayBack numbers calls → IsSoon (latest_at numbers calls i) (judged_at numbers calls i)
+  soon_at : (calls : List (At JudgedCall)) (i : ℕ) → AreTaken numbers calls → NeverADayBack numbers calls → IsSoon (latest_at numbers calls i) (judged_at numbers calls i)
   soon_at [] i taken back = omega arith
   soon_at (e ∷ older) i taken back = by (nat_eq e.place i) refl (soon_at older i taken.1 back.1) where
     by : (b : Bool) → nat_eq e.place i ≡ b → IsSoon (latest_at numbers older i) (judged_at numbers older i)
-        → IsSoon (cond b (latest_after e.call (file_at numbers older i) (judged_at numbers older i) (latest_at numbers older i)) (latest_at numbers older i))
-        (cond b (after_call e.call (judged_at numbers older i)) (judged_at numbers older i))
+        → IsSoon (cond b (latest_after e.event (file_at numbers older i) (judged_at numbers older i) (latest_at numbers older i)) (latest_at numbers older i))
+        (cond b (after_call e.event (judged_at numbers older i)) (judged_at numbers older i))
     by true is soon =
         let here = eqb-true e.place i is in
-        call_soon e.call (file_at numbers older i) (judged_at numbers older i) (latest_at numbers older i) (own_at numbers older i)
-        (subst (λ (p : ℕ). IsTaken e.call (judged_at numbers older p)) here taken.0)
-        (λ tells. subst (λ (p : ℕ). IsSoon (latest_before e.call (file_at numbers older p) (latest_at numbers older p)) (after_call e.call (judged_at numbers older p))) here (back.0 tells))
+        call_soon e.event (file_at numbers older i) (judged_at numbers older i) (latest_at numbers older i) (own_at numbers older i)
+        (subst (λ (p : ℕ). IsTaken e.event (judged_at numbers older p)) here taken.0)
+        (λ tells. subst (λ (p : ℕ). IsSoon (latest_before e.event (file_at numbers older p) (latest_at numbers older p)) (after_call e.event (judged_at numbers older p))) here (back.0 tells))
         soon
     by false is soon = soon
 
@@ -321,7 +322,7 @@ pub ours_lie_above : OursLieAbove
 ours_lie_above numbers older e ours d keeps day c held on =
     call_above (latest_at numbers older e.place) (judged_at numbers older e.place) (own_at numbers older e.place) ours d
     (all_within numbers older e.place keeps.files.1) (few_at numbers older e.place keeps.taken.1) (soon_at numbers older e.place keeps.taken.1 keeps.back.1)
-    held on e.call keeps.taken.0 day c
+    held on e.event keeps.taken.0 day c
 
 -- it holds what it drew
 pub ours_are_in_order : OursAreInOrder

@@ -25,7 +25,7 @@ use Rattle.wb_judging.specs.Performing.{after_judged, after_kept_line, gained}
 use Rattle.wb_judging.specs.declared.record.RecordLine.{RecordLine}
 use Rattle.wb_judging.specs.declared.record.RecordLine.TheVariants.{Known, Mark, Owner, Said, Strange, Tick}
 use Rattle.wb_judging.proofs.Again.{all_dropped}
-use Rattle.wb_laws_kept.specs.Sessions.{Begins, CallAt, kept_at, steps_of}
+use Rattle.wb_laws_kept.specs.Sessions.{At, kept_at, steps_of}
 use Rattle.wb_laws_kept.proofs.Honest.{came_given, moments_given, of_policy, ticks_given, timed_given}
 use Rattle.wb_laws_kept.proofs.Replaying.{lines_stay, none}
 use Rattle.wb_laws_kept.proofs.Steps.{kept_is_session}
@@ -33,8 +33,10 @@ use Rattle.wb_laws_sessions.specs.Drawn.{drawn_at as drawn_by_steps}
 use Rattle.wb_laws_sessions.specs.Members.{drawn_by as drawn_in_deed, new_where, Does, Opens}
 use Rattle.wb_laws_sessions.specs.Sessions.{Step, host_at, steps_then}
 use Rattle.wb_laws_sessions.proofs.Honest.{IsGiven, given_draws_none}
-use Rattle.wb_judged_sessions.specs.Sessions.{DrawsAsKept, JudgedCall, JudgedCallAt, Start, Starts, Takes, Tunes, drawn_at, drawn_by, judged_at, kept_calls, kept_then, lines_then, plain_line, started}
+use Rattle.wb_judged_sessions.specs.Calls.{drawn_by, JudgedCall, plain_line, Start, started, Starts, Takes, Tunes}
+use Rattle.wb_judged_sessions.specs.Sessions.{drawn_at, DrawsAsKept, judged_at, kept_calls, kept_then, lines_then}
 use Rattle.wb_judged_sessions.proofs.Kept.{at, judged_is_kept}
+use Rattle.wb_laws_kept.specs.Calls.{Begins, Call as KeptCall}
 
 -- ---- lines that draw nothing
 
@@ -94,7 +96,7 @@ line_given (Added now page time op) k is = absurd is
 line_given (Tuned constants) k is = (tt, tt)
 
 module _ (numbers : ℕ → ℕ) (time place : ℕ) where
-  lines_draw : (lines : List KeptLine) (older : List CallAt) (i : ℕ) → DrawNone lines
+  lines_draw : (lines : List KeptLine) (older : List (At KeptCall)) (i : ℕ) → DrawNone lines
       → drawn_by_steps numbers (steps_of numbers (lines_then time place lines older)) i ≡ drawn_by_steps numbers (steps_of numbers older) i
   lines_draw [] older i each = refl
   lines_draw (line ∷ lines) older i each =
@@ -102,8 +104,8 @@ module _ (numbers : ℕ → ℕ) (time place : ℕ) where
       lines_draw lines (at time place line ∷ older) i each.1
       ∙ given_draws numbers time place any (doing_of line (sees k.host) k.policy).lines (steps_of numbers older) i (line_given line k each.0)
 
-  start_draws : (start : Start) (older : List CallAt) (i : ℕ)
-      → drawn_by_steps numbers (steps_of numbers (record { time = time; place = place; call = Begins start.opening [] } ∷ older)) i ≡ drawn_by_steps numbers (steps_of numbers older) i
+  start_draws : (start : Start) (older : List (At KeptCall)) (i : ℕ)
+      → drawn_by_steps numbers (steps_of numbers (record { time = time; place = place; event = Begins start.opening [] } ∷ older)) i ≡ drawn_by_steps numbers (steps_of numbers older) i
   start_draws start older i =
       let o = start.opening in
       let opening : Step = record { time = time; place = place; event = Opens o.constants o.cells o.seed } in
@@ -159,7 +161,7 @@ module _ (now : ℕ) (page : PageId) (told : ℕ) (op : Op) (k : Keeping) where
 
 -- ---- calls
 
-module _ (numbers : ℕ → ℕ) (time place : ℕ) (h : Judged) (older : List CallAt) (i : ℕ) (same : h.kept ≡ kept_at numbers older place) where
+module _ (numbers : ℕ → ℕ) (time place : ℕ) (h : Judged) (older : List (At KeptCall)) (i : ℕ) (same : h.kept ≡ kept_at numbers older place) where
   abbrev drawn : List DrawopValue
   drawn = drawn_by_steps numbers (steps_of numbers older) i
 
@@ -181,24 +183,24 @@ module _ (numbers : ℕ → ℕ) (time place : ℕ) (h : Judged) (older : List C
   pub call_draws : (call : JudgedCall) → Draws call
   call_draws (Starts start given) =
       let lines = expanded (map Held given) (started h.kept.host.is.number start) in
-      lines_draw numbers time place lines (record { time = time; place = place; call = Begins start.opening [] } ∷ older) i (record_draws given (started h.kept.host.is.number start))
+      lines_draw numbers time place lines (record { time = time; place = place; event = Begins start.opening [] } ∷ older) i (record_draws given (started h.kept.host.is.number start))
       ∙ start_draws numbers time place start older i
       ∙ sym (if_none (nat_eq place i) [] drawn refl)
   call_draws (Takes line) = line_draws line
   call_draws (Tunes constants) = nothing (Tuned constants) tt
 
 module _ (numbers : ℕ → ℕ) where
-  one_call : (e : JudgedCallAt) (older : List JudgedCallAt) (i : ℕ) → drawn_at numbers older i ≡ drawn_by_steps numbers (steps_of numbers (kept_calls numbers older)) i
+  one_call : (e : At JudgedCall) (older : List (At JudgedCall)) (i : ℕ) → drawn_at numbers older i ≡ drawn_by_steps numbers (steps_of numbers (kept_calls numbers older)) i
       → drawn_at numbers (e ∷ older) i ≡ drawn_by_steps numbers (steps_of numbers (kept_calls numbers (e ∷ older))) i
   one_call e older i rest = from (nat_eq e.place i) refl where
     before : List DrawopValue
     before = drawn_by_steps numbers (steps_of numbers (kept_calls numbers older)) i
 
     by_call : ℕ → List DrawopValue
-    by_call p = drawn_by e.call (judged_at numbers older p)
+    by_call p = drawn_by e.event (judged_at numbers older p)
 
     then : drawn_by_steps numbers (steps_of numbers (kept_calls numbers (e ∷ older))) i ≡ cond (nat_eq e.place i) (by_call e.place ++ before) before
-    then = call_draws numbers e.time e.place (judged_at numbers older e.place) (kept_calls numbers older) i (judged_is_kept numbers older e.place) e.call
+    then = call_draws numbers e.time e.place (judged_at numbers older e.place) (kept_calls numbers older) i (judged_is_kept numbers older e.place) e.event
 
     from : (b : Bool) → nat_eq e.place i ≡ b → cond b (by_call i ++ drawn_at numbers older i) (drawn_at numbers older i) ≡ drawn_by_steps numbers (steps_of numbers (kept_calls numbers (e ∷ older))) i
     from true is =

@@ -37,8 +37,9 @@ use Rattle.wb_judging.proofs.Numbers.{me_judging}
 use Rattle.wb_kept_progress.proofs.Counted.{echoes_listed}
 use Rattle.wb_kept_progress.proofs.FirstLines.{lines_of_call}
 use Rattle.wb_judged_sessions.specs.Answering.{LastTakenIsEchoed, last_taken, taken_by}
-use Rattle.wb_judged_sessions.specs.Sessions.{JudgedCall, JudgedCallAt, Starts, Takes, Tunes, after_call, judged_at, started}
-use Rattle.wb_judged_sessions.specs.Terms.{AreTaken, IsTaken}
+use Rattle.wb_judged_sessions.specs.Calls.{after_call, IsTaken, JudgedCall, started, Starts, Takes, Tunes}
+use Rattle.wb_judged_sessions.specs.Sessions.{At, judged_at}
+use Rattle.wb_judged_sessions.specs.Terms.{AreTaken}
 use Rattle.wb_judged_sessions.proofs.Records.{number_at}
 use Rattle.wb_judged_sessions.proofs.Sent.{echo_mine}
 use Rattle.wb_judged_sessions.proofs.TakenIn.{CallTells, IsQuiet, IsTimed, call_tells, lines_same, moment_in, newest_of, quiet_lines, senders, AreEchoedBy}
@@ -93,15 +94,15 @@ module _ (number : ℕ) where
   call_newest (Takes line) h another = (call_tells number (handed line h) h.kept another (timed_line line h).0).newest_is
   call_newest (Tunes constants) h another = refl
 
-  pub last_is : (numbers : ℕ → ℕ) (place : ℕ) (calls : List JudgedCallAt) → nat_eq number (numbers place) ≡ false → newest_of number (judged_at numbers calls place).kept.host ≡ last_taken numbers number place calls
+  pub last_is : (numbers : ℕ → ℕ) (place : ℕ) (calls : List (At JudgedCall)) → nat_eq number (numbers place) ≡ false → newest_of number (judged_at numbers calls place).kept.host ≡ last_taken numbers number place calls
   last_is numbers place [] another = refl
   last_is numbers place (e ∷ older) another = by (nat_eq e.place place) (last_is numbers place older another) where
     h : Judged
     h = judged_at numbers older place
 
-    by : (b : Bool) → newest_of number h.kept.host ≡ last_taken numbers number place older → newest_of number (let k : Judged = cond b (after_call e.call h) h in k.kept.host)
-        ≡ cond b (taken_by number e.call h (last_taken numbers number place older)) (last_taken numbers number place older)
-    by true rest = call_newest e.call h (ap (nat_eq number) (number_at numbers older place) ∙ another) ∙ ap (taken_by number e.call h) rest
+    by : (b : Bool) → newest_of number h.kept.host ≡ last_taken numbers number place older → newest_of number (let k : Judged = cond b (after_call e.event h) h in k.kept.host)
+        ≡ cond b (taken_by number e.event h (last_taken numbers number place older)) (last_taken numbers number place older)
+    by true rest = call_newest e.event h (ap (nat_eq number) (number_at numbers older place) ∙ another) ∙ ap (taken_by number e.event h) rest
     by false rest = rest
 
 -- ---- the echo in what it sends
@@ -189,7 +190,7 @@ module _ (line : Call) (h : Judged) (s moment : ℕ) (page : PageId) (marks : Li
   pub report_echoes : (there : Opened) × AreEchoedBy there r.plain
   report_echoes = (told.0, told.2)
 
-pub taken_line : (numbers : ℕ → ℕ) (older : List JudgedCallAt) (e : JudgedCallAt) (line : Call) → AreTaken numbers (e ∷ older) → e.call ≡ Takes line
+pub taken_line : (numbers : ℕ → ℕ) (older : List (At JudgedCall)) (e : At JudgedCall) (line : Call) → AreTaken numbers (e ∷ older) → e.event ≡ Takes line
     → let h = judged_at numbers older e.place in fault_of (handed line h) h.kept ≡ None
 taken_line numbers older e line taken takes =
     let h = judged_at numbers older e.place in
@@ -232,7 +233,7 @@ last_taken_is_echoed numbers older e line number sender moment page marks es ech
       it = remembered number said.0 said.2.known said.2.from echo (subst (λ (fs : List Echo). Contains fs echo) said.2.is among) (eqb-true echo.source number f.1)
 
       after : judged_at numbers (e ∷ older) e.place ≡ after_judged line h
-      after = ap (λ (b : Bool). cond b (after_call e.call h) h) (eq-eqb e.place e.place refl) ∙ ap (λ (call : JudgedCall). after_call call h) takes
+      after = ap (λ (b : Bool). cond b (after_call e.event h) h) (eq-eqb e.place e.place refl) ∙ ap (λ (call : JudgedCall). after_call call h) takes
 
       there_is : newest_of number (judged_at numbers (e ∷ older) e.place).kept.host ≡ newest_of number said.0
       there_is = ap (λ (k : Judged). newest_of number k.kept.host) after ∙ sym said.3

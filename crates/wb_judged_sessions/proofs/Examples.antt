@@ -25,10 +25,12 @@ use Rattle.wb_judging.specs.Performing.{after_kept_line, sent_by_kept_line}
 use Rattle.wb_judging.specs.declared.record.RecordLine.{RecordLine}
 use Rattle.wb_laws_machines.specs.Honest.{AreApart}
 use Rattle.wb_laws_sessions.proofs.Sending.{one_of}
-use Rattle.wb_judged_sessions.specs.Examples.{IsShared, again, at, deletes, drawing, drawn, both_started, file, heard, numbers, one_started, page, somewhere, start}
-use Rattle.wb_judged_sessions.specs.Sessions.{JudgedCall, JudgedCallAt, Start, Starts, Takes, Tunes, WasHeld, drawn_at, judged_at}
-use Rattle.wb_judged_sessions.specs.Terms.{AreTaken, DrawopsWereHeld, IsItsFile, KeepFiles, KnowTheirOwn, KnowsItsOwn, brought_by, file_at}
+use Rattle.wb_judged_sessions.specs.Examples.{IsShared, again, deletes, drawing, drawn, both_started, file, heard, numbers, one_started, page, somewhere, start}
+use Rattle.wb_judged_sessions.specs.Calls.{brought_by, JudgedCall, Start, Starts, Takes, Tunes}
+use Rattle.wb_judged_sessions.specs.Sessions.{At, drawn_at, judged_at, WasHeld}
+use Rattle.wb_judged_sessions.specs.Terms.{AreTaken, DrawopsWereHeld, file_at, IsItsFile, KeepFiles, KnowsItsOwn, KnowTheirOwn}
 use Rattle.wb_judged_sessions.proofs.Meeting.{is_opening}
+use Rattle.wb_laws_machines.specs.Machines.{part, whole}
 
 -- ---- what is held, drawn and recorded
 
@@ -83,18 +85,17 @@ first = omega arith
 
 was_held : (d : DrawopValue) → Contains (drawing ∷ []) d → WasHeld numbers drawn d
 unfolding random_started word_of after_word words.started report_of gaps_of pages_of near_names after_kept_line sent_by_kept_line
-was_held d c = subst (WasHeld numbers drawn) (one_of drawing d c) (record { newer = []; older = drawn; split = refl; place = 0; held = (0, first, refl) })
+was_held d c = subst (WasHeld numbers drawn) (one_of drawing d c) (record { older = drawn; behind = whole; place = 0; held = (0, first, refl) })
 
 held_since : (d : DrawopValue) → Contains (drawing ∷ []) d → WasHeld numbers heard d
 held_since d c = record {
-  newer = at 4 1 (Takes (CameFrom 4 somewhere (Draw drawing))) ∷ [];
   older = drawn;
-  split = refl;
+  behind = part whole;
   place = 0;
   held = subst (λ (ds : List DrawopValue). Contains ds d) (sym held_there) c;
 }
 
-none_brought : (calls : List JudgedCallAt) (d : DrawopValue) → Contains [] d → WasHeld numbers calls d
+none_brought : (calls : List (At JudgedCall)) (d : DrawopValue) → Contains [] d → WasHeld numbers calls d
 none_brought calls d c = absurd (Contains-none d c)
 
 all_held : DrawopsWereHeld numbers again
@@ -111,7 +112,7 @@ all_held = (
 )
 
 -- before its user draws it has drawn nothing
-module _ (older : List JudgedCallAt) (place : ℕ) where
+module _ (older : List (At JudgedCall)) (place : ℕ) where
   abbrev KnowsAt : Call → Type 0
   KnowsAt (UserDrew now on op) = KnowsItsOwn numbers older place on
   KnowsAt (CameFrom now o v) = Unit {0}

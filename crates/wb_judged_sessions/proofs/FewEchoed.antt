@@ -1,5 +1,5 @@
 -- A member that remembers few senders echoes them all.
-use Rattle.std.proofs.Common.{◌≡◌, ◌∙◌, ◌≤◌, ◌+◌, ℕ, Bool, true, false, cond, List, [], ◌∷◌, ◌++◌, ap, arith, eqb-true, filter, length, refl, subst, sym, true≢false, ⊎_elim}
+use Rattle.std.proofs.Common.{◌≡◌, ◌∙◌, ◌≤◌, ℕ, Bool, true, false, cond, List, [], ◌∷◌, ◌++◌, ap, arith, eqb-true, filter, length, refl, subst, sym, true≢false, ⊎_elim}
 use Rattle.std.specs.Prelude.{◌-◌, ◌||◌, Contains, Option, None, Some, is_some, nat_eq, nat_le, nat_lt}
 use Rattle.std.specs.List.{filter_map, find, list_any}
 use Rattle.std.specs.Option.{option_or}
@@ -30,7 +30,8 @@ use Rattle.wb_judging.proofs.Numbers.{me_judging}
 use Rattle.wb_kept_progress.proofs.Counted.{echoes_listed}
 use Rattle.wb_kept_progress.proofs.Pauses.{mapped_few, sorted_few}
 use Rattle.wb_judged_sessions.specs.Answering.{FewAreEchoed}
-use Rattle.wb_judged_sessions.specs.Sessions.{JudgedCall, after_call, judged_at}
+use Rattle.wb_judged_sessions.specs.Calls.{after_call, JudgedCall}
+use Rattle.wb_judged_sessions.specs.Sessions.{judged_at}
 use Rattle.wb_judged_sessions.proofs.Echoed.{IsReported, last_is, reported, taken_line, timed_line}
 use Rattle.wb_judged_sessions.proofs.Records.{number_at}
 use Rattle.wb_judged_sessions.proofs.Sent.{echo_mine}
@@ -147,7 +148,7 @@ few_are_echoed numbers older e line number sender moment page marks es heard tak
       said = tells.said sender moment page marks r.plain (taken_line numbers older e line taken takes) r.among
 
       after : judged_at numbers (e ∷ older) e.place ≡ after_judged line h
-      after = ap (λ (b : Bool). cond b (after_call e.call h) h) (eq-eqb e.place e.place refl) ∙ ap (λ (call : JudgedCall). after_call call h) takes
+      after = ap (λ (b : Bool). cond b (after_call e.event h) h) (eq-eqb e.place e.place refl) ∙ ap (λ (call : JudgedCall). after_call call h) takes
 
       is : newest_of number said.0 ≡ Some heard
       is = said.3 ∙ sym (ap (λ (k : Judged). newest_of number k.kept.host) after) ∙ last_is number numbers e.place (e ∷ older) apart ∙ last

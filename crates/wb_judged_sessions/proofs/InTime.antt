@@ -29,20 +29,24 @@ use Rattle.wb_judging.specs.declared.record.RecordLine.{RecordLine}
 use Rattle.wb_judging.proofs.AsKept.{sends_as_kept}
 use Rattle.wb_judging.proofs.MembersIn.{needed_is_handed_in}
 use Rattle.wb_judging.proofs.Numbers.{me_judging}
-use Rattle.wb_laws_kept.specs.Sessions.{CallAt, Handed, kept_at}
-use Rattle.wb_kept_progress.specs.Since.{IsHandedIn, IsSpared, IsTimelyWithStartsBut, WasSentBy as WasKeptSent, called_at as kept_called_at}
+use Rattle.wb_laws_kept.specs.Sessions.{At, kept_at}
+use Rattle.wb_kept_progress.specs.Since.{IsHandedIn, IsSpared, IsTimelyWithStartsBut, WasSentBy as WasKeptSent}
 use Rattle.wb_kept_progress.proofs.Since.{always_short_since}
-use Rattle.wb_judged_sessions.specs.Sessions.{JudgedCall, JudgedCallAt, Starts, Takes, Tunes, judged_at, kept_calls, plain_line}
+use Rattle.wb_judged_sessions.specs.Calls.{IsLineTaken, IsTaken, JudgedCall, plain_line, Starts, Takes, Tunes}
+use Rattle.wb_judged_sessions.specs.Sessions.{judged_at, kept_calls}
 use Rattle.wb_laws_machines.specs.Maps.{plain}
-use Rattle.wb_judged_sessions.specs.Terms.{AreTaken, IsLineTaken, IsTaken}
-use Rattle.wb_judged_sessions.specs.Timely.{AreInOrder, Arrives, IsNoStart, IsTimelyBut, JudgedAlwaysShort, JudgedIsTimely}
+use Rattle.wb_judged_sessions.specs.Terms.{AreTaken}
+use Rattle.wb_judged_sessions.specs.Timely.{Arrives, IsNoStart, IsTimelyBut, JudgedAlwaysShort, JudgedIsTimely}
 use Rattle.wb_judged_sessions.proofs.Drawn.{DrawsNone, came_draws}
 use Rattle.wb_judged_sessions.proofs.Echoes.{call_sends, plain_again}
 use Rattle.wb_judged_sessions.proofs.Kept.{at, calls_split, judged_is_kept}
 use Rattle.wb_judged_sessions.proofs.Plain.{plain_sent}
 use Rattle.wb_judged_sessions.proofs.Sent.{echo_mine, line_sends}
 use Rattle.wb_judged_sessions.proofs.Terms.{fault_none, own_at, taken_kept}
-use Rattle.wb_judged_sessions.proofs.Timely.{FromCall, called_kept, fit_kept, from_call, line_for, line_is, order_kept, order_part, taken_at, taken_call, takes_is}
+use Rattle.wb_judged_sessions.proofs.Timely.{FromCall, called_kept, fit_kept, from_call, line_for, line_is, order_kept, taken_at, taken_call, takes_is}
+use Rattle.wb_laws_kept.specs.Calls.{Call as KeptCall, Handed}
+use Rattle.wb_kept_progress.specs.Timed.{AreInOrder, time_of}
+use Rattle.wb_progress.proofs.Parts.{order_of}
 
 -- ---- the datagram without the echo
 
@@ -125,14 +129,14 @@ call_says (Tunes constants) steady h own taken v c = absurd (Contains-none v c)
 
 -- ---- the terms
 
-module _ {Delays : Type 0} (numbers : ℕ → ℕ) (terms : Terms) (calls : List JudgedCallAt) (s : IsTimelyBut (λ newer base i j by v. Arrives numbers newer base j by v) Delays numbers terms calls) where
-  abbrev kept : List CallAt
+module _ {Delays : Type 0} (numbers : ℕ → ℕ) (terms : Terms) (calls : List (At JudgedCall)) (s : IsTimelyBut (λ newer base i j by v. Arrives numbers newer base j by v) Delays numbers terms calls) where
+  abbrev kept : List (At KeptCall)
   kept = kept_calls numbers calls
 
-  from : (newer older : List CallAt) (e : CallAt) → kept ≡ newer ++ e ∷ older → terms.quiet < e.time → FromCall numbers calls e older
+  from : (newer older : List (At KeptCall)) (e : At KeptCall) → kept ≡ newer ++ e ∷ older → terms.quiet < e.time → FromCall numbers calls e older
   from newer older e split late = from_call numbers terms.quiet calls s.order (λ newer older e split late. (s.alone newer older e split late).1) newer older e split late
 
-  module _ (newer older : List CallAt) (e : CallAt) (split : kept ≡ newer ++ e ∷ older) (late : terms.quiet < e.time) where
+  module _ (newer older : List (At KeptCall)) (e : At KeptCall) (split : kept ≡ newer ++ e ∷ older) (late : terms.quiet < e.time) where
     abbrev f : FromCall numbers calls e older
     f = from newer older e split late
 
@@ -140,41 +144,41 @@ module _ {Delays : Type 0} (numbers : ℕ → ℕ) (terms : Terms) (calls : List
     h = judged_at numbers f.before f.call.place
 
     time_is : e.time ≡ f.call.time
-    time_is = ap (λ (c : CallAt). c.time) f.is
+    time_is = ap (λ (c : At KeptCall). c.time) f.is
 
     place_is : e.place ≡ f.call.place
-    place_is = ap (λ (c : CallAt). c.place) f.is
+    place_is = ap (λ (c : At KeptCall). c.place) f.is
 
     abbrev line_is_for : KeptLine
-    line_is_for = line_for f.call.call f.steady h
+    line_is_for = line_for f.call.event f.steady h
 
-    call_is : e.call ≡ Handed line_is_for
-    call_is = ap (λ (c : CallAt). c.call) f.is
+    call_is : e.event ≡ Handed line_is_for
+    call_is = ap (λ (c : At KeptCall). c.event) f.is
 
     later_than : terms.quiet < f.call.time
     later_than = let same = time_is in omega (arith, late, same)
 
     base_is : e ∷ older ≡ kept_calls numbers (f.call ∷ f.before)
     base_is =
-        ap (λ (c : CallAt). c ∷ older) f.is
-        ∙ ap (λ (cs : List CallAt). at f.call.time f.call.place line_is_for ∷ cs) f.older_is
+        ap (λ (c : At KeptCall). c ∷ older) f.is
+        ∙ ap (λ (cs : List (At KeptCall)). at f.call.time f.call.place line_is_for ∷ cs) f.older_is
         ∙ sym (line_is numbers f.call f.before f.steady)
 
     there_is : (i : ℕ) → kept_at numbers older i ≡ (judged_at numbers f.before i).kept
-    there_is i = ap (λ (cs : List CallAt). kept_at numbers cs i) f.older_is ∙ sym (judged_is_kept numbers f.before i)
+    there_is i = ap (λ (cs : List (At KeptCall)). kept_at numbers cs i) f.older_is ∙ sym (judged_is_kept numbers f.before i)
 
-    not_held : (line : RecordLine) → f.call.call ≡ Takes (Held line) → ⊥
+    not_held : (line : RecordLine) → f.call.event ≡ Takes (Held line) → ⊥
     not_held line is = s.recalled f.later f.before f.call line f.split later_than is
 
-    not_drawn : (now : ℕ) (page : PageId) (op : Op) → f.call.call ≡ Takes (UserDrew now page op) → ⊥
+    not_drawn : (now : ℕ) (page : PageId) (op : Op) → f.call.event ≡ Takes (UserDrew now page op) → ⊥
     not_drawn now page op is = s.drawn f.later f.before f.call now page op f.split later_than is
 
-    alone_kept : Contains terms.live e.place × ((line : KeptLine) × (e.call ≡ Handed line))
+    alone_kept : Contains terms.live e.place × ((line : KeptLine) × (e.event ≡ Handed line))
     alone_kept = (subst (Contains terms.live) (sym place_is) (s.alone f.later f.before f.call f.split later_than).0, (line_is_for, call_is))
 
-    drawn_kept : (now : ℕ) (page : PageId) (time : ℕ) (op : Op) → e.call ≡ Handed (Added now page time op) → ⊥
+    drawn_kept : (now : ℕ) (page : PageId) (time : ℕ) (op : Op) → e.event ≡ Handed (Added now page time op) → ⊥
     drawn_kept now page time op is =
-        subst DrawsNone (handed_one line_is_for (Added now page time op) (sym call_is ∙ is)) (none_drawn f.call.call f.steady h not_drawn not_held)
+        subst DrawsNone (handed_one line_is_for (Added now page time op) (sym call_is ∙ is)) (none_drawn f.call.event f.steady h not_drawn not_held)
 
     soon_kept : (i : ℕ) → Contains terms.live i → e.time ≤ due (kept_at numbers older i) + (terms.lag i + terms.late)
     soon_kept i live =
@@ -183,24 +187,24 @@ module _ {Delays : Type 0} (numbers : ℕ → ℕ) (terms : Terms) (calls : List
 
     room_kept : (i : ℕ) → Contains terms.live i → is_full (kept_at numbers (e ∷ older) i).host ≡ false
     room_kept i live =
-        subst (λ (cs : List CallAt). is_full (kept_at numbers cs i).host ≡ false) (sym base_is)
+        subst (λ (cs : List (At KeptCall)). is_full (kept_at numbers cs i).host ≡ false) (sym base_is)
         (subst (λ (k : Keeping). is_full k.host ≡ false) (judged_is_kept numbers (f.call ∷ f.before) i) (s.room f.later (f.call ∷ f.before) i f.split live later_than))
 
     -- ---- what is sent comes
 
-    sends : (line : KeptLine) → e.call ≡ Handed line → (v : Datagram) → Contains (sent_by_doing (doing_of line) (kept_at numbers older e.place)) v → SaysAs f.call.call h v
+    sends : (line : KeptLine) → e.event ≡ Handed line → (v : Datagram) → Contains (sent_by_doing (doing_of line) (kept_at numbers older e.place)) v → SaysAs f.call.event h v
     sends line called v c =
         let is : line ≡ line_is_for = handed_one line line_is_for (sym called ∙ call_is) in
         let here : kept_at numbers older e.place ≡ h.kept = ap (λ (i : ℕ). kept_at numbers older i) place_is ∙ there_is f.call.place in
         let said = subst (λ (k : Keeping). Contains (sent_by_doing (doing_of line_is_for) k) v) here
         (subst (λ (l : KeptLine). Contains (sent_by_doing (doing_of l) (kept_at numbers older e.place)) v) is c) in
-        call_says f.call.call f.steady h (own_at numbers f.before f.call.place) (taken_call numbers f.later f.before f.call (subst (AreTaken numbers) f.split s.taken)) v said
+        call_says f.call.event f.steady h (own_at numbers f.before f.call.place) (taken_call numbers f.later f.before f.call (subst (AreTaken numbers) f.split s.taken)) v said
 
     module _ (j : ℕ) (v whole : Datagram) (same : plain whole ≡ v) (a : Arrives numbers f.later (f.call ∷ f.before) j (f.call.time + terms.delivery) whole) where
-      abbrev base : List JudgedCallAt
+      abbrev base : List (At JudgedCall)
       base = f.call ∷ f.before
 
-      abbrev mid : List JudgedCallAt
+      abbrev mid : List (At JudgedCall)
       mid = a.between ++ base
 
       abbrev there : Judged
@@ -209,40 +213,40 @@ module _ {Delays : Type 0} (numbers : ℕ → ℕ) (terms : Terms) (calls : List
       abbrev line : KeptLine
       line = plain_line (handed (CameFrom a.now a.origin whole) there)
 
-      abbrev arrival : CallAt
+      abbrev arrival : At KeptCall
       arrival = at a.call.time a.call.place line
 
-      abbrev front : List CallAt
+      abbrev front : List (At KeptCall)
       front = (calls_split numbers a.later (a.call ∷ mid)).0
 
-      abbrev between : List CallAt
+      abbrev between : List (At KeptCall)
       between = (calls_split numbers a.between base).0
 
       calls_are : calls ≡ a.later ++ a.call ∷ mid
-      calls_are = f.split ∙ ap (λ (cs : List JudgedCallAt). cs ++ base) a.split ∙ append_assoc a.later (a.call ∷ a.between) base
+      calls_are = f.split ∙ ap (λ (cs : List (At JudgedCall)). cs ++ base) a.split ∙ append_assoc a.later (a.call ∷ a.between) base
 
       mid_is : kept_calls numbers mid ≡ between ++ e ∷ older
-      mid_is = (calls_split numbers a.between base).1 ∙ ap (λ (cs : List CallAt). between ++ cs) (sym base_is)
+      mid_is = (calls_split numbers a.between base).1 ∙ ap (λ (cs : List (At KeptCall)). between ++ cs) (sym base_is)
 
       newer_is : newer ≡ front ++ arrival ∷ between
       newer_is = append_cancel_right newer (front ++ arrival ∷ between) (e ∷ older) (
           sym split ∙ ap (kept_calls numbers) calls_are
           ∙ (calls_split numbers a.later (a.call ∷ mid)).1
-          ∙ ap (λ (cs : List CallAt). front ++ cs) (takes_is numbers a.call mid (CameFrom a.now a.origin whole) a.is ∙ ap (λ (cs : List CallAt). arrival ∷ cs) mid_is)
+          ∙ ap (λ (cs : List (At KeptCall)). front ++ cs) (takes_is numbers a.call mid (CameFrom a.now a.origin whole) a.is ∙ ap (λ (cs : List (At KeptCall)). arrival ∷ cs) mid_is)
           ∙ sym (append_assoc front (arrival ∷ between) (e ∷ older)))
 
       by_time : a.call.time ≤ e.time + terms.delivery
       by_time = let soon = a.soon in let time = time_is in omega (arith, soon, time)
 
-      mid_time : kept_called_at (between ++ e ∷ older) ≤ a.call.time
+      mid_time : time_of (between ++ e ∷ older) ≤ a.call.time
       mid_time =
           let order = subst AreInOrder calls_are s.order in
-          let le = (order_part a.later (a.call ∷ mid) order).0 in
-          subst (λ (t : ℕ). t ≤ a.call.time) (sym (called_kept numbers mid) ∙ ap kept_called_at mid_is) le
+          let le = (order_of a.later (a.call ∷ mid) order).0 in
+          subst (λ (t : ℕ). t ≤ a.call.time) (sym (called_kept numbers mid) ∙ ap time_of mid_is) le
 
       host_is : (kept_at numbers (between ++ e ∷ older) j).host ≡ there.kept.host
       host_is =
-          ap (λ (cs : List CallAt). (kept_at numbers cs j).host) (sym mid_is)
+          ap (λ (cs : List (At KeptCall)). (kept_at numbers cs j).host) (sym mid_is)
           ∙ ap (λ (k : Keeping). k.host) (sym (judged_is_kept numbers mid j))
           ∙ ap (λ (i : ℕ). (judged_at numbers mid i).kept.host) (sym a.place)
 
@@ -279,9 +283,9 @@ module _ {Delays : Type 0} (numbers : ℕ → ℕ) (terms : Terms) (calls : List
         by true is = inl (comes is)
         by false is = inr (spared is)
 
-    delivered_kept : (line : KeptLine) (j : ℕ) (v : Datagram) → e.call ≡ Handed line → Contains terms.live j → e.place ≢ j
+    delivered_kept : (line : KeptLine) (j : ℕ) (v : Datagram) → e.event ≡ Handed line → Contains terms.live j → e.place ≢ j
         → Contains (sent_by_doing (doing_of line) (kept_at numbers older e.place)) v
-        → e.time + terms.delivery < kept_called_at kept → IsHandedIn newer j (e.time + terms.delivery) v ⊎ IsSpared numbers newer (e ∷ older) j (e.time + terms.delivery) v
+        → e.time + terms.delivery < time_of kept → IsHandedIn newer j (e.time + terms.delivery) v ⊎ IsSpared numbers newer (e ∷ older) j (e.time + terms.delivery) v
     delivered_kept line j v called live apart c long =
         let said = sends line called v c in
         let time = time_is in
@@ -291,9 +295,9 @@ module _ {Delays : Type 0} (numbers : ℕ → ℕ) (terms : Terms) (calls : List
 
     -- ---- what comes was sent
 
-    fresh_kept : settled_by terms < e.time → (now : ℕ) (v : Datagram) → e.call ≡ Handed (Came now v) → WasKeptSent numbers older e.time terms.delivery v
+    fresh_kept : settled_by terms < e.time → (now : ℕ) (v : Datagram) → e.event ≡ Handed (Came now v) → WasKeptSent numbers older e.time terms.delivery v
     fresh_kept settled now v called =
-        let l = let_in f.call.call f.steady h now v not_held (handed_one line_is_for (Came now v) (sym call_is ∙ called)) in
+        let l = let_in f.call.event f.steady h now v not_held (handed_one line_is_for (Came now v) (sym call_is ∙ called)) in
         let time = time_is in
         let w = s.fresh f.later f.before f.call l.now l.origin l.whole f.split (omega (arith, settled, time)) l.is l.lets in
         let sender = judged_at numbers w.before w.e.place in
@@ -304,7 +308,7 @@ module _ {Delays : Type 0} (numbers : ℕ → ℕ) (terms : Terms) (calls : List
           newer = part.0;
           e = at w.e.time w.e.place line;
           before = kept_calls numbers w.before;
-          split = f.older_is ∙ ap (kept_calls numbers) w.split ∙ part.1 ∙ ap (λ (cs : List CallAt). part.0 ++ cs) (takes_is numbers w.e w.before w.line w.call);
+          split = f.older_is ∙ ap (kept_calls numbers) w.split ∙ part.1 ∙ ap (λ (cs : List (At KeptCall)). part.0 ++ cs) (takes_is numbers w.e w.before w.line w.call);
           soon = let soon = w.soon in omega (arith, soon, time);
           line = line;
           call = refl;
@@ -313,14 +317,14 @@ module _ {Delays : Type 0} (numbers : ℕ → ℕ) (terms : Terms) (calls : List
               (subst (λ (x : Datagram). Contains (sent_by_doing (doing_of (handed w.line sender)) sender.kept) x) l.same
               (line_sends w.line sender (own_at numbers w.before w.e.place) (taken_at numbers w.newer w.before w.e w.line among w.call) l.whole w.sent)));
         } where
-          taken_before : (newer older : List JudgedCallAt) → AreTaken numbers (newer ++ older) → AreTaken numbers older
+          taken_before : (newer older : List (At JudgedCall)) → AreTaken numbers (newer ++ older) → AreTaken numbers older
           taken_before [] older all = all
           taken_before (x ∷ newer) older all = taken_before newer older all.1
 
-          order_and_taken : (newer before : List JudgedCallAt) (e : JudgedCallAt) → f.before ≡ newer ++ e ∷ before → AreTaken numbers (newer ++ e ∷ before)
+          order_and_taken : (newer before : List (At JudgedCall)) (e : At JudgedCall) → f.before ≡ newer ++ e ∷ before → AreTaken numbers (newer ++ e ∷ before)
           order_and_taken newer before e is = subst (AreTaken numbers) is (taken_before f.later (f.call ∷ f.before) (subst (AreTaken numbers) f.split s.taken)).1
 
-  room_all : (newer older : List CallAt) (i : ℕ) → kept ≡ newer ++ older → Contains terms.live i → terms.quiet < kept_called_at older → is_full (kept_at numbers older i).host ≡ false
+  room_all : (newer older : List (At KeptCall)) (i : ℕ) → kept ≡ newer ++ older → Contains terms.live i → terms.quiet < time_of older → is_full (kept_at numbers older i).host ≡ false
   room_all newer [] i split live late = absurd (omega (arith, late))
   room_all newer (e ∷ older) i split live late = room_kept newer older e split late i live
 

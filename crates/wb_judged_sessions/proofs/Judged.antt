@@ -22,11 +22,9 @@ use Rattle.wb_judging.specs.declared.record.RecordLine.{RecordLine}
 use Rattle.wb_judging.proofs.AsKept.{judged_members_are_kept}
 use Rattle.wb_judging.proofs.Numbers.{own_stays}
 use Rattle.wb_laws_sessions.proofs.Several.{sent_performed}
-use Rattle.wb_laws_kept.specs.Sessions.{Begins, Handed}
 use Rattle.wb_laws_machines.specs.Maps.{HasSame, IsMap, plain}
 use Rattle.wb_judged_sessions.specs.Judged.{calls_of, judged, judged_map}
-use Rattle.wb_judged_sessions.specs.Sessions.{JudgedCall, Starts, Takes, Tunes, after_call, drawn_by, plain_line, sent_by, sent_by_lines, started}
-use Rattle.wb_judged_sessions.specs.Terms.{AreLinesTaken, IsTaken, brought_by}
+use Rattle.wb_judged_sessions.specs.Calls.{after_call, AreLinesTaken, brought_by, drawn_by, IsTaken, JudgedCall, plain_line, sent_by, sent_by_lines, started, Starts, Takes, Tunes}
 use Rattle.wb_judged_sessions.proofs.Drawn.{DrawNone, DrawsNone, came_draws, gained_added, plain_draws, record_draws}
 use Rattle.wb_judged_sessions.proofs.Plain.{of_others, plain_after, plain_came, plain_fault, plain_sent}
 use Rattle.wb_judged_sessions.proofs.Sent.{line_sends}
@@ -36,6 +34,7 @@ use Rattle.wb_laws_kept.specs.Kept.{gained_by_line, kept}
 use Rattle.wb_laws_machines.specs.Machines.{AreAllTaken, after_all, drawn_by_all, gained_by_all, sent_by_all}
 use Rattle.wb_laws_kept.proofs.Kept.{kept_is_lawful}
 use Rattle.wb_laws_machines.proofs.Mapped.{lawful_over}
+use Rattle.wb_laws_kept.specs.Calls.{Begins, Handed}
 
 -- ---- what becomes of it
 

@@ -34,10 +34,11 @@ use Rattle.wb_judging.proofs.NewsTold.{leaves_others}
 use Rattle.wb_kept_progress.proofs.CallParts.{due_by_report}
 use Rattle.wb_judged_sessions.specs.Known.{ComeInTime, Comes, JudgedStayKnown, KnowEachOther, KnownBecomeWhole, moment_by, until}
 use Rattle.wb_judged_sessions.specs.Knowing.{HasRoom, IsKnownSince, LeavesKnown}
-use Rattle.wb_judged_sessions.specs.Sessions.{JudgedCall, JudgedCallAt, Starts, Takes, Tunes, after_call, judged_at}
+use Rattle.wb_judged_sessions.specs.Calls.{after_call, IsLineTaken, JudgedCall, Starts, Takes, Tunes}
+use Rattle.wb_judged_sessions.specs.Sessions.{At, judged_at}
 use Rattle.wb_laws_machines.specs.Maps.{plain}
-use Rattle.wb_judged_sessions.specs.Terms.{AreTaken, IsLineTaken}
-use Rattle.wb_judged_sessions.specs.Timely.{AreFittingSince, AreInOrder, Arrives, IsFittingSince, IsNoStart, IsTimely, called_at}
+use Rattle.wb_judged_sessions.specs.Terms.{AreTaken}
+use Rattle.wb_judged_sessions.specs.Timely.{AreFittingSince, Arrives, IsFittingSince, IsNoStart, IsTimely}
 use Rattle.wb_judged_sessions.proofs.Clocks.{due_at, present_at}
 use Rattle.wb_judged_sessions.proofs.Echoes.{IsOfMember as IsUnder, call_sends}
 use Rattle.wb_judged_sessions.proofs.Records.{number_at}
@@ -45,55 +46,46 @@ use Rattle.wb_judged_sessions.proofs.Reporting.{IsReported, call_reports, report
 use Rattle.wb_judged_sessions.proofs.Sent.{line_sends}
 use Rattle.wb_judged_sessions.proofs.Staying.{known_for, known_since_earlier, report_makes_known, speaks_since, stays_known}
 use Rattle.wb_judged_sessions.proofs.Terms.{IsOwn, fault_none, own_at}
-use Rattle.wb_judged_sessions.proofs.Timely.{later_calls, order_part, taken_at}
+use Rattle.wb_judged_sessions.proofs.Timely.{later_calls, taken_at}
 use Rattle.wb_judged_sessions.proofs.Whole.{judged_become_whole}
+use Rattle.wb_kept_progress.specs.Timed.{AreInOrder, time_of}
+use Rattle.wb_progress.proofs.Parts.{before_end, no_later, order_of}
 
 -- ---- parts of calls
 
-called_by : (newer older : List JudgedCallAt) → AreInOrder (newer ++ older) → called_at older ≤ called_at (newer ++ older)
-called_by [] older order = omega arith
-called_by (e ∷ newer) older order = let rest = called_by newer older order.1 in let first = order.0 in omega (arith, rest, first)
-
-no_later : (calls : List JudgedCallAt) (c : JudgedCallAt) → AreInOrder calls → Contains calls c → c.time ≤ called_at calls
-no_later [] c order among = absurd (Contains-none c among)
-no_later (x ∷ calls) c order among = ⊎_elim
-    (λ (now : x ≡ c). subst (λ (y : JudgedCallAt). y.time ≤ x.time) now (omega arith))
-    (λ (before : Contains calls c). let le = no_later calls c order.1 before in let first = order.0 in omega (arith, le, first))
-    (Contains-cases x c calls among)
-
 -- an earlier call is one of the older ones
-record IsOlder (older : List JudgedCallAt) (a : JudgedCallAt) (rest : List JudgedCallAt) : Type 0 where
-  mid : List JudgedCallAt
+record IsOlder (older : List (At JudgedCall)) (a : At JudgedCall) (rest : List (At JudgedCall)) : Type 0 where
+  mid : List (At JudgedCall)
   split : older ≡ mid ++ a ∷ rest
 
-is_older : (newer later older rest : List JudgedCallAt) (e a : JudgedCallAt) → newer ++ e ∷ older ≡ later ++ a ∷ rest → AreInOrder (later ++ a ∷ rest) → a.time < e.time → IsOlder older a rest
-is_older [] [] older rest e a same order lt = absurd (let time : e.time ≡ a.time = ap called_at same in omega (arith, lt, time))
+is_older : (newer later older rest : List (At JudgedCall)) (e a : At JudgedCall) → newer ++ e ∷ older ≡ later ++ a ∷ rest → AreInOrder (later ++ a ∷ rest) → a.time < e.time → IsOlder older a rest
+is_older [] [] older rest e a same order lt = absurd (let time : e.time ≡ a.time = ap time_of same in omega (arith, lt, time))
 is_older [] (x ∷ later) older rest e a same order lt = let tails : older ≡ later ++ a ∷ rest = cc in record { mid = later; split = tails }
 is_older (y ∷ newer) [] older rest e a same order lt =
     let tail : rest ≡ newer ++ e ∷ older = sym cc in
-    let le = called_by newer (e ∷ older) (subst AreInOrder tail order.1) in
+    let le = before_end newer (e ∷ older) (subst AreInOrder tail order.1) in
     let first = order.0 in
-    let time : called_at rest ≡ called_at (newer ++ e ∷ older) = ap called_at tail in
+    let time : time_of rest ≡ time_of (newer ++ e ∷ older) = ap time_of tail in
     absurd (omega (arith, lt, le, first, time))
 is_older (y ∷ newer) (x ∷ later) older rest e a same order lt = let tails : newer ++ e ∷ older ≡ later ++ a ∷ rest = cc in is_older newer later older rest e a tails order.1 lt
 
 -- the calls after a time, and those until then
-record Cut (s : ℕ) (older base : List JudgedCallAt) : Type 0 where
-  window : List JudgedCallAt
+record Cut (s : ℕ) (older base : List (At JudgedCall)) : Type 0 where
+  window : List (At JudgedCall)
   split : older ≡ window ++ base
-  after : (c : JudgedCallAt) → Contains window c → s < c.time
-  by : called_at base ≤ s
+  after : (c : At JudgedCall) → Contains window c → s < c.time
+  by : time_of base ≤ s
 
-cut : (s : ℕ) (older : List JudgedCallAt) → Cut s older (until s older)
+cut : (s : ℕ) (older : List (At JudgedCall)) → Cut s older (until s older)
 cut s [] = record { window = []; split = refl; after = λ c among. absurd (Contains-none c among); by = omega arith }
 cut s (e ∷ older) = choose (nat_le e.time s) refl (cut s older) where
   choose : (b : Bool) → nat_le e.time s ≡ b → Cut s older (until s older) → Cut s (e ∷ older) (cond b (e ∷ older) (until s older))
   choose true is rest = record { window = []; split = refl; after = λ c among. absurd (Contains-none c among); by = leb-true e.time s is }
   choose false is rest = record {
     window = e ∷ rest.window;
-    split = ap (λ (cs : List JudgedCallAt). e ∷ cs) rest.split;
+    split = ap (λ (cs : List (At JudgedCall)). e ∷ cs) rest.split;
     after = λ c among. ⊎_elim
-        (λ (now : e ≡ c). subst (λ (x : JudgedCallAt). s < x.time) now (later is))
+        (λ (now : e ≡ c). subst (λ (x : At JudgedCall). s < x.time) now (later is))
         (λ (before : Contains rest.window c). rest.after c before)
         (Contains-cases e c rest.window among);
     by = rest.by;
@@ -101,7 +93,7 @@ cut s (e ∷ older) = choose (nat_le e.time s) refl (cut s older) where
     later : nat_le e.time s ≡ false → s < e.time
     later is = grind (arith, nat_tests)
 
-until_later : (s : ℕ) (newer older : List JudgedCallAt) → ((c : JudgedCallAt) → Contains newer c → s < c.time) → until s (newer ++ older) ≡ until s older
+until_later : (s : ℕ) (newer older : List (At JudgedCall)) → ((c : At JudgedCall) → Contains newer c → s < c.time) → until s (newer ++ older) ≡ until s older
 until_later s [] older late = refl
 until_later s (e ∷ newer) older late =
     ap (λ (b : Bool). cond b (e ∷ (newer ++ older)) (until s (newer ++ older))) (not_by (late e (Contains-here e newer)))
@@ -146,68 +138,68 @@ patience_less = less where
 
 -- ---- a session
 
-module _ (numbers : ℕ → ℕ) (origins : ℕ → ℕ → Origin) (terms : Terms) (heard : ℕ) (calls : List JudgedCallAt) (s : ComeInTime numbers origins terms calls) (k : KnowEachOther numbers origins terms heard calls) where
-  abbrev AllLate : ℕ → List JudgedCallAt → Type 0
-  AllLate time cs = (c : JudgedCallAt) → Contains cs c → time < c.time
+module _ (numbers : ℕ → ℕ) (origins : ℕ → ℕ → Origin) (terms : Terms) (heard : ℕ) (calls : List (At JudgedCall)) (s : ComeInTime numbers origins terms calls) (k : KnowEachOther numbers origins terms heard calls) where
+  abbrev AllLate : ℕ → List (At JudgedCall) → Type 0
+  AllLate time cs = (c : At JudgedCall) → Contains cs c → time < c.time
 
-  abbrev Since : (time i j : ℕ) → List JudgedCallAt → Type 0
+  abbrev Since : (time i j : ℕ) → List (At JudgedCall) → Type 0
   Since time i j older = IsKnownSince (origins j i) (numbers i) (moment_by terms time j) (judged_at numbers older j).judge
 
-  another_me : (i j : ℕ) (older : List JudgedCallAt) → i ≢ j → ¬ (numbers i ≡ (judged_at numbers older j).judge.me)
+  another_me : (i j : ℕ) (older : List (At JudgedCall)) → i ≢ j → ¬ (numbers i ≡ (judged_at numbers older j).judge.me)
   another_me i j older apart same = apart (s.apart i j (same ∙ own_at numbers older j ∙ number_at numbers older j))
 
   -- the part up to a call keeps to the terms
-  order_of : (newer older : List JudgedCallAt) → calls ≡ newer ++ older → AreInOrder older
-  order_of newer older split = order_part newer older (subst AreInOrder split s.order)
+  order_there : (newer older : List (At JudgedCall)) → calls ≡ newer ++ older → AreInOrder older
+  order_there newer older split = order_of newer older (subst AreInOrder split s.order)
 
-  taken_of : (newer older : List JudgedCallAt) → calls ≡ newer ++ older → AreTaken numbers older
+  taken_of : (newer older : List (At JudgedCall)) → calls ≡ newer ++ older → AreTaken numbers older
   taken_of newer older split = part newer (subst (AreTaken numbers) split s.taken) where
-    part : (newer : List JudgedCallAt) → AreTaken numbers (newer ++ older) → AreTaken numbers older
+    part : (newer : List (At JudgedCall)) → AreTaken numbers (newer ++ older) → AreTaken numbers older
     part [] taken = taken
     part (x ∷ newer) taken = part newer taken.1
 
-  end_of : (newer older : List JudgedCallAt) → calls ≡ newer ++ older → called_at older ≤ called_at calls
-  end_of newer older split = subst (λ (cs : List JudgedCallAt). called_at older ≤ called_at cs) (sym split) (called_by newer older (subst AreInOrder split s.order))
+  end_of : (newer older : List (At JudgedCall)) → calls ≡ newer ++ older → time_of older ≤ time_of calls
+  end_of newer older split = subst (λ (cs : List (At JudgedCall)). time_of older ≤ time_of cs) (sym split) (before_end newer older (subst AreInOrder split s.order))
 
-  abbrev FitsAs : (i : ℕ) → JudgedCallAt → List JudgedCallAt → Bool → JudgedCall → Type 0
+  abbrev FitsAs : (i : ℕ) → At JudgedCall → List (At JudgedCall) → Bool → JudgedCall → Type 0
   FitsAs i x older b call = IsFittingSince terms (numbers i) i b x.time call (judged_at numbers older x.place) (AreFittingSince terms numbers i older)
 
-  fit_tail : (i : ℕ) (x : JudgedCallAt) (older : List JudgedCallAt) → IsNoStart x.call → AreFittingSince terms numbers i (x ∷ older) → AreFittingSince terms numbers i older
-  fit_tail i x older steady fits = by (nat_eq x.place i) x.call steady fits where
+  fit_tail : (i : ℕ) (x : At JudgedCall) (older : List (At JudgedCall)) → IsNoStart x.event → AreFittingSince terms numbers i (x ∷ older) → AreFittingSince terms numbers i older
+  fit_tail i x older steady fits = by (nat_eq x.place i) x.event steady fits where
     by : (b : Bool) (call : JudgedCall) → IsNoStart call → FitsAs i x older b call → AreFittingSince terms numbers i older
     by false call steady fits = fits
     by true (Starts start given) steady fits = absurd steady
     by true (Takes line) steady fits = fits.1
     by true (Tunes constants) steady fits = fits.1
 
-  fit_now : (i : ℕ) (x : JudgedCallAt) (older : List JudgedCallAt) (line : Call) → x.call ≡ Takes line → x.place ≡ i → AreFittingSince terms numbers i (x ∷ older)
+  fit_now : (i : ℕ) (x : At JudgedCall) (older : List (At JudgedCall)) (line : Call) → x.event ≡ Takes line → x.place ≡ i → AreFittingSince terms numbers i (x ∷ older)
       → IsNowAt terms x.time i (moment_of line (judged_at numbers older i))
   fit_now i x older line takes here fits =
       let now : FitsAs i x older true (Takes line) =
       subst (λ (b : Bool). FitsAs i x older b (Takes line)) (eq-eqb x.place i here) (subst (λ (call : JudgedCall). FitsAs i x older (nat_eq x.place i) call) takes fits) in
       subst (λ (p : ℕ). IsNowAt terms x.time i (moment_of line (judged_at numbers older p))) here now.0
 
-  fits : (newer front base : List JudgedCallAt) (i : ℕ) → calls ≡ newer ++ (front ++ base) → AllLate terms.quiet front → AreFittingSince terms numbers i (front ++ base) → AreFittingSince terms numbers i base
+  fits : (newer front base : List (At JudgedCall)) (i : ℕ) → calls ≡ newer ++ (front ++ base) → AllLate terms.quiet front → AreFittingSince terms numbers i (front ++ base) → AreFittingSince terms numbers i base
   fits newer [] base i split late f = f
   fits newer (x ∷ front) base i split late f =
       let t = (s.alone newer (front ++ base) x split (late x (Contains-here x front))).1 in
       fits (newer ++ x ∷ []) front base i (split ∙ sym (append_assoc newer (x ∷ []) (front ++ base))) (λ c among. late c (Contains-there x c front among)) (fit_tail i x (front ++ base) t f)
 
-  fitting_of : (newer base : List JudgedCallAt) (i : ℕ) → calls ≡ newer ++ base → AllLate terms.quiet newer → Contains terms.live i → AreFittingSince terms numbers i base
+  fitting_of : (newer base : List (At JudgedCall)) (i : ℕ) → calls ≡ newer ++ base → AllLate terms.quiet newer → Contains terms.live i → AreFittingSince terms numbers i base
   fitting_of newer base i split late live = fits [] newer base i split late (subst (AreFittingSince terms numbers i) split (s.fitting i live))
 
-  late_of : (newer older : List JudgedCallAt) (e : JudgedCallAt) → calls ≡ newer ++ e ∷ older → terms.quiet < e.time → AllLate terms.quiet newer
+  late_of : (newer older : List (At JudgedCall)) (e : At JudgedCall) → calls ≡ newer ++ e ∷ older → terms.quiet < e.time → AllLate terms.quiet newer
   late_of newer older e split late c among = let le = later_calls newer (e ∷ older) (subst AreInOrder split s.order) c among in omega (arith, le, late)
 
   -- ---- it stays known
 
   module _ (i j time : ℕ) (live_i : Contains terms.live i) (live_j : Contains terms.live j) (apart : i ≢ j) where
     -- calls after `quiet` that are late enough, and soon enough
-    abbrev AreSoon : List JudgedCallAt → Type 0
-    AreSoon cs = (c : JudgedCallAt) → Contains cs c → (terms.quiet < c.time) × (time ≤ c.time) × (c.time + terms.drift ≤ time + PATIENCE)
+    abbrev AreSoon : List (At JudgedCall) → Type 0
+    AreSoon cs = (c : At JudgedCall) → Contains cs c → (terms.quiet < c.time) × (time ≤ c.time) × (c.time + terms.drift ≤ time + PATIENCE)
 
-    leaves : (newer older : List JudgedCallAt) (x : JudgedCallAt) (line : Call) → calls ≡ newer ++ x ∷ older → (terms.quiet < x.time) × (time ≤ x.time) × (x.time + terms.drift ≤ time + PATIENCE)
-        → x.place ≡ j → x.call ≡ Takes line → LeavesKnown (origins j i) (numbers i) (moment_by terms time j) line (judged_at numbers older j)
+    leaves : (newer older : List (At JudgedCall)) (x : At JudgedCall) (line : Call) → calls ≡ newer ++ x ∷ older → (terms.quiet < x.time) × (time ≤ x.time) × (x.time + terms.drift ≤ time + PATIENCE)
+        → x.place ≡ j → x.event ≡ Takes line → LeavesKnown (origins j i) (numbers i) (moment_by terms time j) line (judged_at numbers older j)
     leaves newer older x (CameFrom now p v) split soon here takes =
         let fits = fitting_of newer (x ∷ older) j split (late_of newer older x split soon.0) live_j in
         let now_at : IsNowAt terms x.time j now = fit_now j x older (CameFrom now p v) takes here fits in
@@ -228,23 +220,23 @@ module _ (numbers : ℕ → ℕ) (origins : ℕ → ℕ → Origin) (terms : Ter
     leaves newer older x (UserDrew now page op) split soon here takes = tt
     leaves newer older x (Held line) split soon here takes = tt
 
-    step : (newer older : List JudgedCallAt) (x : JudgedCallAt) → calls ≡ newer ++ x ∷ older → (terms.quiet < x.time) × (time ≤ x.time) × (x.time + terms.drift ≤ time + PATIENCE)
+    step : (newer older : List (At JudgedCall)) (x : At JudgedCall) → calls ≡ newer ++ x ∷ older → (terms.quiet < x.time) × (time ≤ x.time) × (x.time + terms.drift ≤ time + PATIENCE)
         → Since time i j older → Since time i j (x ∷ older)
     step newer older x split soon m = by (nat_eq x.place j) refl where
       h : Judged
       h = judged_at numbers older j
 
-      by : (b : Bool) → nat_eq x.place j ≡ b → IsKnownSince (origins j i) (numbers i) (moment_by terms time j) (let after : Judged = cond b (after_call x.call h) h in after.judge)
+      by : (b : Bool) → nat_eq x.place j ≡ b → IsKnownSince (origins j i) (numbers i) (moment_by terms time j) (let after : Judged = cond b (after_call x.event h) h in after.judge)
       by false other = m
       by true same =
           let here = eqb-true x.place j same in
-          called x.call refl (s.alone newer older x split soon.0).1 here (subst (λ (q : ℕ). HasRoom (judged_at numbers older q).judge) here (k.room newer older x split soon.0)) where
-            called : (call : JudgedCall) → x.call ≡ call → IsNoStart call → x.place ≡ j → HasRoom h.judge → IsKnownSince (origins j i) (numbers i) (moment_by terms time j) (after_call call h).judge
+          called x.event refl (s.alone newer older x split soon.0).1 here (subst (λ (q : ℕ). HasRoom (judged_at numbers older q).judge) here (k.room newer older x split soon.0)) where
+            called : (call : JudgedCall) → x.event ≡ call → IsNoStart call → x.place ≡ j → HasRoom h.judge → IsKnownSince (origins j i) (numbers i) (moment_by terms time j) (after_call call h).judge
             called (Starts start given) is steady here room = absurd steady
             called (Takes line) is steady here room = stays_known line h (origins j i) (numbers i) (moment_by terms time j) room (leaves newer older x line split soon here is) m
             called (Tunes constants) is steady here room = m
 
-    persists : (newer front base : List JudgedCallAt) → calls ≡ newer ++ (front ++ base) → AreSoon front → Since time i j base → Since time i j (front ++ base)
+    persists : (newer front base : List (At JudgedCall)) → calls ≡ newer ++ (front ++ base) → AreSoon front → Since time i j base → Since time i j (front ++ base)
     persists newer [] base split soon m = m
     persists newer (x ∷ front) base split soon m =
         step newer (front ++ base) x split (soon x (Contains-here x front))
@@ -252,23 +244,23 @@ module _ (numbers : ℕ → ℕ) (origins : ℕ → ℕ → Origin) (terms : Ter
 
   -- ---- a report follows
 
-  record SaidIn (window base : List JudgedCallAt) (i : ℕ) : Type 0 where
-    later : List JudgedCallAt
-    call : JudgedCallAt
-    between : List JudgedCallAt
+  record SaidIn (window base : List (At JudgedCall)) (i : ℕ) : Type 0 where
+    later : List (At JudgedCall)
+    call : At JudgedCall
+    between : List (At JudgedCall)
     split : window ≡ later ++ call ∷ between
     place : call.place ≡ i
     line : Call
-    takes : call.call ≡ Takes line
+    takes : call.event ≡ Takes line
     report : IsReported (sends_in (events_of line (judged_at numbers (between ++ base) call.place)))
     due : report_due (judged_at numbers (between ++ base) i).kept ≡ report_due (judged_at numbers base i).kept
 
-  later_said : (x : JudgedCallAt) (window base : List JudgedCallAt) (i : ℕ) → SaidIn window base i → SaidIn (x ∷ window) base i
+  later_said : (x : At JudgedCall) (window base : List (At JudgedCall)) (i : ℕ) → SaidIn window base i → SaidIn (x ∷ window) base i
   later_said x window base i r = record {
     later = x ∷ r.later;
     call = r.call;
     between = r.between;
-    split = ap (λ (cs : List JudgedCallAt). x ∷ cs) r.split;
+    split = ap (λ (cs : List (At JudgedCall)). x ∷ cs) r.split;
     place = r.place;
     line = r.line;
     takes = r.takes;
@@ -277,26 +269,26 @@ module _ (numbers : ℕ → ℕ) (origins : ℕ → ℕ → Origin) (terms : Ter
   }
 
   -- after some calls its report is due as before, or one of them sent it
-  abbrev IsStillOrSaid : List JudgedCallAt → List JudgedCallAt → ℕ → Type 0
+  abbrev IsStillOrSaid : List (At JudgedCall) → List (At JudgedCall) → ℕ → Type 0
   IsStillOrSaid window base i = (report_due (judged_at numbers (window ++ base) i).kept ≡ report_due (judged_at numbers base i).kept) ⊎ SaidIn window base i
 
-  said_in : (newer window base : List JudgedCallAt) (i : ℕ) → calls ≡ newer ++ (window ++ base) → AllLate terms.quiet window → IsStillOrSaid window base i
+  said_in : (newer window base : List (At JudgedCall)) (i : ℕ) → calls ≡ newer ++ (window ++ base) → AllLate terms.quiet window → IsStillOrSaid window base i
   unfolding after_kept_line
   said_in newer [] base i split late = inl refl
   said_in newer (x ∷ window) base i split late =
       from (said_in (newer ++ x ∷ []) window base i (split ∙ sym (append_assoc newer (x ∷ []) (window ++ base))) (λ c among. late c (Contains-there x c window among))) where
-        older : List JudgedCallAt
+        older : List (At JudgedCall)
         older = window ++ base
 
         h : Judged
         h = judged_at numbers older i
 
         by : report_due h.kept ≡ report_due (judged_at numbers base i).kept → (b : Bool) → nat_eq x.place i ≡ b
-            → (report_due (let after : Judged = cond b (after_call x.call h) h in after.kept) ≡ report_due (judged_at numbers base i).kept) ⊎ SaidIn (x ∷ window) base i
+            → (report_due (let after : Judged = cond b (after_call x.event h) h in after.kept) ≡ report_due (judged_at numbers base i).kept) ⊎ SaidIn (x ∷ window) base i
         by same false other = inl same
         by same true is =
-            called x.call refl (s.alone newer older x split (late x (Contains-here x window))).1 (eqb-true x.place i is) where
-              called : (call : JudgedCall) → x.call ≡ call → IsNoStart call → x.place ≡ i → (report_due (after_call call h).kept ≡ report_due (judged_at numbers base i).kept) ⊎ SaidIn (x ∷ window) base i
+            called x.event refl (s.alone newer older x split (late x (Contains-here x window))).1 (eqb-true x.place i is) where
+              called : (call : JudgedCall) → x.event ≡ call → IsNoStart call → x.place ≡ i → (report_due (after_call call h).kept ≡ report_due (judged_at numbers base i).kept) ⊎ SaidIn (x ∷ window) base i
               called (Starts start given) is_call steady here = absurd steady
               called (Tunes constants) is_call steady here = inl same
               called (Takes line) is_call steady here =
@@ -323,24 +315,24 @@ module _ (numbers : ℕ → ℕ) (origins : ℕ → ℕ → Origin) (terms : Ter
 
   -- ---- so each is known
 
-  record IsKnownAt (time i j : ℕ) (older : List JudgedCallAt) : Type 0 where
+  record IsKnownAt (time i j : ℕ) (older : List (At JudgedCall)) : Type 0 where
     from : ℕ
     no_later : from ≤ time
     soon : time + terms.drift ≤ from + PATIENCE
     is : Since from i j older
 
-  abbrev AreKnown : List JudgedCallAt → Type 0
-  AreKnown older = (newer : List JudgedCallAt) (e : JudgedCallAt) (i j : ℕ) → calls ≡ newer ++ e ∷ older → terms.quiet < e.time → Contains terms.live i → Contains terms.live j → i ≢ j → IsKnownAt e.time i j older
+  abbrev AreKnown : List (At JudgedCall) → Type 0
+  AreKnown older = (newer : List (At JudgedCall)) (e : At JudgedCall) (i j : ℕ) → calls ≡ newer ++ e ∷ older → terms.quiet < e.time → Contains terms.live i → Contains terms.live j → i ≢ j → IsKnownAt e.time i j older
 
   -- it is known at a moment of the time
-  knows_then : (time i j now : ℕ) (older : List JudgedCallAt) → IsNowAt terms time j now → (m : IsKnownAt time i j older) → knows (origins j i) now (judged_at numbers older j).judge ≡ true
+  knows_then : (time i j now : ℕ) (older : List (At JudgedCall)) → IsNowAt terms time j now → (m : IsKnownAt time i j older) → knows (origins j i) now (judged_at numbers older j).judge ≡ true
   knows_then time i j now older at m =
       let ahead = at.not_ahead in
       let soon = m.soon in
       let less = patience_less in
       known_for (origins j i) (numbers i) (moment_by terms m.from j) now (judged_at numbers older j).judge (omega (arith, ahead, soon, less)) m.is
 
-  module _ (newer older : List JudgedCallAt) (e : JudgedCallAt) (i j : ℕ) (split : calls ≡ newer ++ e ∷ older) (late : terms.quiet < e.time) (live_i : Contains terms.live i) (live_j : Contains terms.live j) (apart : i ≢ j) where
+  module _ (newer older : List (At JudgedCall)) (e : At JudgedCall) (i j : ℕ) (split : calls ≡ newer ++ e ∷ older) (late : terms.quiet < e.time) (live_i : Contains terms.live i) (live_j : Contains terms.live j) (apart : i ≢ j) where
     -- soon after `quiet` it is known as it was then
     since_quiet : e.time + terms.drift ≤ heard + PATIENCE → IsKnownAt e.time i j older
     since_quiet soon =
@@ -348,26 +340,26 @@ module _ (numbers : ℕ → ℕ) (origins : ℕ → ℕ → Origin) (terms : Ter
         let before = k.before in
         let same : until terms.quiet calls ≡ until terms.quiet older =
         ap (until terms.quiet) (split ∙ sym (append_assoc newer (e ∷ []) older)) ∙ until_later terms.quiet (newer ++ e ∷ []) older late_all in
-        let first : Since heard i j (until terms.quiet older) = subst (λ (cs : List JudgedCallAt). Since heard i j cs) same (k.known i j live_i live_j apart) in
-        let order : AreInOrder older = (order_of newer (e ∷ older) split).1 in
-        let last = (order_of newer (e ∷ older) split).0 in
+        let first : Since heard i j (until terms.quiet older) = subst (λ (cs : List (At JudgedCall)). Since heard i j cs) same (k.known i j live_i live_j apart) in
+        let order : AreInOrder older = (order_there newer (e ∷ older) split).1 in
+        let last = (order_there newer (e ∷ older) split).0 in
         let kept = persists i j heard live_i live_j apart (newer ++ e ∷ []) c.window (until terms.quiet older)
-        (split ∙ sym (append_assoc newer (e ∷ []) older) ∙ ap (λ (cs : List JudgedCallAt). (newer ++ e ∷ []) ++ cs) c.split)
+        (split ∙ sym (append_assoc newer (e ∷ []) older) ∙ ap (λ (cs : List (At JudgedCall)). (newer ++ e ∷ []) ++ cs) c.split)
         (λ x among.
         let after = c.after x among in
-        let le = no_later older x order (subst (λ (cs : List JudgedCallAt). Contains cs x) (sym c.split) (Contains-append_left c.window (until terms.quiet older) x among)) in
+        let le = no_later older x order (subst (λ (cs : List (At JudgedCall)). Contains cs x) (sym c.split) (Contains-append_left c.window (until terms.quiet older) x among)) in
         (after, omega (arith, after, before), omega (arith, le, last, soon))) first in
-        record { from = heard; no_later = omega (arith, before, late); soon = soon; is = subst (λ (cs : List JudgedCallAt). Since heard i j cs) (sym c.split) kept } where
+        record { from = heard; no_later = omega (arith, before, late); soon = soon; is = subst (λ (cs : List (At JudgedCall)). Since heard i j cs) (sym c.split) kept } where
           late_all : AllLate terms.quiet (newer ++ e ∷ [])
           late_all x among = ⊎_elim
               (λ (in_newer : Contains newer x). late_of newer older e split late x in_newer)
-              (λ (it : Contains (e ∷ []) x). ⊎_elim (λ (same : e ≡ x). subst (λ (y : JudgedCallAt). terms.quiet < y.time) same late) (λ (no : Contains [] x). absurd (Contains-none x no)) (Contains-cases e x [] it))
+              (λ (it : Contains (e ∷ []) x). ⊎_elim (λ (same : e ≡ x). subst (λ (y : At JudgedCall). terms.quiet < y.time) same late) (λ (no : Contains [] x). absurd (Contains-none x no)) (Contains-cases e x [] it))
               (Contains-append_cases newer (e ∷ []) x among)
 
     -- and later since a report came
     module _ (start : ℕ) (is_start : e.time ≡ start + (LONGEST_PAUSE + terms.late + terms.delivery) + 1) (after_quiet : terms.quiet ≤ start)
-        (known_before : (mid rest : List JudgedCallAt) (a : JudgedCallAt) → older ≡ mid ++ a ∷ rest → AreKnown rest) where
-      abbrev base : List JudgedCallAt
+        (known_before : (mid rest : List (At JudgedCall)) (a : At JudgedCall) → older ≡ mid ++ a ∷ rest → AreKnown rest) where
+      abbrev base : List (At JudgedCall)
       base = until start older
 
       c : Cut start older base
@@ -377,7 +369,7 @@ module _ (numbers : ℕ → ℕ) (origins : ℕ → ℕ → Origin) (terms : Ter
       all_late x among = let lt = c.after x among in omega (arith, lt, after_quiet)
 
       over : calls ≡ (newer ++ e ∷ []) ++ (c.window ++ base)
-      over = split ∙ sym (append_assoc newer (e ∷ []) older) ∙ ap (λ (cs : List JudgedCallAt). (newer ++ e ∷ []) ++ cs) c.split
+      over = split ∙ sym (append_assoc newer (e ∷ []) older) ∙ ap (λ (cs : List (At JudgedCall)). (newer ++ e ∷ []) ++ cs) c.split
 
       over_base : calls ≡ ((newer ++ e ∷ []) ++ c.window) ++ base
       over_base = over ∙ sym (append_assoc (newer ++ e ∷ []) c.window base)
@@ -386,7 +378,7 @@ module _ (numbers : ℕ → ℕ) (origins : ℕ → ℕ → Origin) (terms : Ter
       late_base x among = ⊎_elim
           (λ (new : Contains (newer ++ e ∷ []) x). ⊎_elim
           (λ (in_newer : Contains newer x). late_of newer older e split late x in_newer)
-          (λ (it : Contains (e ∷ []) x). ⊎_elim (λ (same : e ≡ x). subst (λ (y : JudgedCallAt). terms.quiet < y.time) same late) (λ (no : Contains [] x). absurd (Contains-none x no)) (Contains-cases e x [] it))
+          (λ (it : Contains (e ∷ []) x). ⊎_elim (λ (same : e ≡ x). subst (λ (y : At JudgedCall). terms.quiet < y.time) same late) (λ (no : Contains [] x). absurd (Contains-none x no)) (Contains-cases e x [] it))
           (Contains-append_cases newer (e ∷ []) x new))
           (λ (in_window : Contains c.window x). all_late x in_window)
           (Contains-append_cases (newer ++ e ∷ []) c.window x among)
@@ -395,12 +387,12 @@ module _ (numbers : ℕ → ℕ) (origins : ℕ → ℕ → Origin) (terms : Ter
       due_base =
           let fits = fitting_of ((newer ++ e ∷ []) ++ c.window) base i over_base late_base live_i in
           let soon : report_due (judged_at numbers base i).kept ≤ present (judged_at numbers base i).kept.host + LONGEST_PAUSE = due_at numbers terms base i fits (taken_of ((newer ++ e ∷ []) ++ c.window) base over_base) in
-          let now = present_at numbers terms base i fits (order_of ((newer ++ e ∷ []) ++ c.window) base over_base) in
+          let now = present_at numbers terms base i fits (order_there ((newer ++ e ∷ []) ++ c.window) base over_base) in
           let by = c.by in
           omega (arith, soon, now, by)
 
       -- a call is at most so long after the moment at which the report is due
-      in_time : (front rest : List JudgedCallAt) (x : JudgedCallAt) → calls ≡ front ++ x ∷ rest → terms.quiet < x.time → report_due (judged_at numbers rest i).kept ≡ report_due (judged_at numbers base i).kept
+      in_time : (front rest : List (At JudgedCall)) (x : At JudgedCall) → calls ≡ front ++ x ∷ rest → terms.quiet < x.time → report_due (judged_at numbers rest i).kept ≡ report_due (judged_at numbers base i).kept
           → x.time ≤ start + LONGEST_PAUSE + terms.late
       in_time front rest x at after same =
           let soon = s.soon front rest x i at live_i after in
@@ -409,19 +401,19 @@ module _ (numbers : ℕ → ℕ) (origins : ℕ → ℕ → Origin) (terms : Ter
           omega (arith, soon, least, same, due)
 
       module _ (said : SaidIn c.window base i) where
-        abbrev back : List JudgedCallAt
+        abbrev back : List (At JudgedCall)
         back = said.between ++ base
 
-        abbrev front : List JudgedCallAt
+        abbrev front : List (At JudgedCall)
         front = (newer ++ e ∷ []) ++ said.later
 
         at_said : calls ≡ front ++ said.call ∷ back
         at_said =
-            over ∙ ap (λ (cs : List JudgedCallAt). (newer ++ e ∷ []) ++ cs) (ap (λ (cs : List JudgedCallAt). cs ++ base) said.split ∙ append_assoc said.later (said.call ∷ said.between) base)
+            over ∙ ap (λ (cs : List (At JudgedCall)). (newer ++ e ∷ []) ++ cs) (ap (λ (cs : List (At JudgedCall)). cs ++ base) said.split ∙ append_assoc said.later (said.call ∷ said.between) base)
             ∙ sym (append_assoc (newer ++ e ∷ []) said.later (said.call ∷ back))
 
         after_start : start < said.call.time
-        after_start = c.after said.call (subst (λ (cs : List JudgedCallAt). Contains cs said.call) (sym said.split) (Contains-append_right said.later (said.call ∷ said.between) said.call (Contains-here said.call said.between)))
+        after_start = c.after said.call (subst (λ (cs : List (At JudgedCall)). Contains cs said.call) (sym said.split) (Contains-append_right said.later (said.call ∷ said.between) said.call (Contains-here said.call said.between)))
 
         said_late : terms.quiet < said.call.time
         said_late = let lt = after_start in omega (arith, lt, after_quiet)
@@ -439,23 +431,23 @@ module _ (numbers : ℕ → ℕ) (origins : ℕ → ℕ → Origin) (terms : Ter
             subst (λ (p : ℕ). Comes numbers (origins j p) front (said.call ∷ back) j (said.call.time + terms.delivery) report) said.place
             (s.delivered front back said.call said.line j report at_said said.takes live_j (λ here. apart (sym said.place ∙ here)) said_late said.report.among (omega (arith, end, soon, is_start)))
 
-        abbrev a : JudgedCallAt
+        abbrev a : At JudgedCall
         a = comes.call
 
-        abbrev rest : List JudgedCallAt
+        abbrev rest : List (At JudgedCall)
         rest = comes.between ++ said.call ∷ back
 
         at_arrival : calls ≡ comes.later ++ a ∷ rest
-        at_arrival = at_said ∙ ap (λ (cs : List JudgedCallAt). cs ++ said.call ∷ back) comes.split ∙ append_assoc comes.later (a ∷ comes.between) (said.call ∷ back)
+        at_arrival = at_said ∙ ap (λ (cs : List (At JudgedCall)). cs ++ said.call ∷ back) comes.split ∙ append_assoc comes.later (a ∷ comes.between) (said.call ∷ back)
 
         arrives_soon : a.time ≤ start + LONGEST_PAUSE + terms.late + terms.delivery
         arrives_soon = let by = comes.soon in let soon = said_soon in omega (arith, by, soon)
 
         arrives_after : start < a.time
         arrives_after =
-            let order = order_of comes.later (a ∷ rest) at_arrival in
+            let order = order_there comes.later (a ∷ rest) at_arrival in
             let le = order.0 in
-            let first = called_by comes.between (said.call ∷ back) order.1 in
+            let first = before_end comes.between (said.call ∷ back) order.1 in
             let lt = after_start in
             omega (arith, le, first, lt)
 
@@ -497,7 +489,7 @@ module _ (numbers : ℕ → ℕ) (origins : ℕ → ℕ → Origin) (terms : Ter
             let behind = now_at.not_behind in
             let earlier = known_since_earlier (origins j i) said.report.sender comes.now (moment_by terms a.time j) (after_judged line h).judge (omega (arith, behind)) now in
             let under : IsKnownSince (origins j i) (numbers i) (moment_by terms a.time j) (after_judged line h).judge = subst (λ (n : ℕ). IsKnownSince (origins j i) n (moment_by terms a.time j) (after_judged line h).judge) sender_is earlier in
-            subst (λ (b : Bool). IsKnownSince (origins j i) (numbers i) (moment_by terms a.time j) (let after : Judged = cond b (after_call a.call h) h in after.judge)) (sym (eq-eqb a.place j comes.place))
+            subst (λ (b : Bool). IsKnownSince (origins j i) (numbers i) (moment_by terms a.time j) (let after : Judged = cond b (after_call a.event h) h in after.judge)) (sym (eq-eqb a.place j comes.place))
             (subst (λ (call : JudgedCall). IsKnownSince (origins j i) (numbers i) (moment_by terms a.time j) (after_call call h).judge) (sym comes.is) under)
 
         since_report : IsKnownAt e.time i j older
@@ -506,26 +498,26 @@ module _ (numbers : ℕ → ℕ) (origins : ℕ → ℕ → Origin) (terms : Ter
             let soon = arrives_soon in
             let before = k.before in
             let lately = k.lately in
-            let order = order_of newer (e ∷ older) split in
+            let order = order_there newer (e ∷ older) split in
             let last = order.0 in
             let order_mid : AreInOrder (place.mid ++ a ∷ rest) = subst AreInOrder place.split order.1 in
             let kept = persists i j a.time live_i live_j apart (newer ++ e ∷ []) place.mid (a ∷ rest)
-            (split ∙ sym (append_assoc newer (e ∷ []) older) ∙ ap (λ (cs : List JudgedCallAt). (newer ++ e ∷ []) ++ cs) place.split)
+            (split ∙ sym (append_assoc newer (e ∷ []) older) ∙ ap (λ (cs : List (At JudgedCall)). (newer ++ e ∷ []) ++ cs) place.split)
             (λ x among.
             let first = later_calls place.mid (a ∷ rest) order_mid x among in
-            let le = no_later older x order.1 (subst (λ (cs : List JudgedCallAt). Contains cs x) (sym place.split) (Contains-append_left place.mid (a ∷ rest) x among)) in
+            let le = no_later older x order.1 (subst (λ (cs : List (At JudgedCall)). Contains cs x) (sym place.split) (Contains-append_left place.mid (a ∷ rest) x among)) in
             (omega (arith, first, after, after_quiet), first, omega (arith, le, last, is_start, after, before, lately))) known_by_it in
-            record { from = a.time; no_later = omega (arith, soon, is_start); soon = omega (arith, is_start, after, before, lately); is = subst (λ (cs : List JudgedCallAt). Since a.time i j cs) (sym place.split) kept }
+            record { from = a.time; no_later = omega (arith, soon, is_start); soon = omega (arith, is_start, after, before, lately); is = subst (λ (cs : List (At JudgedCall)). Since a.time i j cs) (sym place.split) kept }
 
       since_some : IsKnownAt e.time i j older
       since_some = ⊎_elim
           (λ (still : report_due (judged_at numbers (c.window ++ base) i).kept ≡ report_due (judged_at numbers base i).kept).
-          let none = in_time newer older e split late (ap (λ (cs : List JudgedCallAt). report_due (judged_at numbers cs i).kept) c.split ∙ still) in
+          let none = in_time newer older e split late (ap (λ (cs : List (At JudgedCall)). report_due (judged_at numbers cs i).kept) c.split ∙ still) in
           absurd (omega (arith, none, is_start)))
           since_report
           (said_in (newer ++ e ∷ []) c.window base i over all_late)
 
-    known_there : ((mid rest : List JudgedCallAt) (a : JudgedCallAt) → older ≡ mid ++ a ∷ rest → AreKnown rest) → IsKnownAt e.time i j older
+    known_there : ((mid rest : List (At JudgedCall)) (a : At JudgedCall) → older ≡ mid ++ a ∷ rest → AreKnown rest) → IsKnownAt e.time i j older
     known_there known_before = ⊎_elim
         (λ soon. since_quiet soon.1)
         (λ later.
@@ -535,27 +527,27 @@ module _ (numbers : ℕ → ℕ) (origins : ℕ → ℕ → Origin) (terms : Ter
         (leb_tells (e.time + terms.drift) (heard + PATIENCE))
 
   -- by the calls, one after the other
-  abbrev AllKnown : List JudgedCallAt → Type 0
+  abbrev AllKnown : List (At JudgedCall) → Type 0
   AllKnown [] = AreKnown []
   AllKnown (x ∷ older) = AreKnown (x ∷ older) × AllKnown older
 
-  newest_known : (older : List JudgedCallAt) → AllKnown older → AreKnown older
+  newest_known : (older : List (At JudgedCall)) → AllKnown older → AreKnown older
   newest_known [] all = all
   newest_known (x ∷ older) all = all.0
 
-  part_known : (newer older : List JudgedCallAt) → AllKnown (newer ++ older) → AllKnown older
+  part_known : (newer older : List (At JudgedCall)) → AllKnown (newer ++ older) → AllKnown older
   part_known [] older all = all
   part_known (x ∷ newer) older all = part_known newer older all.1
 
-  all_known : (older : List JudgedCallAt) → AllKnown older
+  all_known : (older : List (At JudgedCall)) → AllKnown older
   all_known [] = λ newer e i j split late live_i live_j apart. known_there newer [] e i j split late live_i live_j apart (λ mid rest a is. absurd (none mid rest a is)) where
-    none : (mid rest : List JudgedCallAt) (a : JudgedCallAt) → [] ≡ mid ++ a ∷ rest → ⊥
+    none : (mid rest : List (At JudgedCall)) (a : At JudgedCall) → [] ≡ mid ++ a ∷ rest → ⊥
     none [] rest a is = absurd cc
     none (x ∷ mid) rest a is = absurd cc
   all_known (x ∷ older) = from (all_known older) where
     from : AllKnown older → AllKnown (x ∷ older)
     from all = ((λ newer e i j split late live_i live_j apart. known_there newer (x ∷ older) e i j split late live_i live_j apart before), all) where
-      before : (mid rest : List JudgedCallAt) (a : JudgedCallAt) → x ∷ older ≡ mid ++ a ∷ rest → AreKnown rest
+      before : (mid rest : List (At JudgedCall)) (a : At JudgedCall) → x ∷ older ≡ mid ++ a ∷ rest → AreKnown rest
       before [] rest a is = let tail : older ≡ rest = cc in subst AreKnown tail (newest_known older all)
       before (y ∷ mid) rest a is =
           let tail : older ≡ (mid ++ a ∷ []) ++ rest = the_tail ∙ sym (append_assoc mid (a ∷ []) rest) in
@@ -565,8 +557,8 @@ module _ (numbers : ℕ → ℕ) (origins : ℕ → ℕ → Origin) (terms : Ter
 
   -- ---- what is sent comes as a member's
 
-  arrives : (newer older : List JudgedCallAt) (e : JudgedCallAt) (line : Call) (j : ℕ) (v : Datagram) → calls ≡ newer ++ e ∷ older → e.call ≡ Takes line → Contains terms.live j → e.place ≢ j → terms.quiet < e.time
-      → Contains (sends_in (events_of line (judged_at numbers older e.place))) v → e.time + terms.delivery < called_at calls → Arrives numbers newer (e ∷ older) j (e.time + terms.delivery) v
+  arrives : (newer older : List (At JudgedCall)) (e : At JudgedCall) (line : Call) (j : ℕ) (v : Datagram) → calls ≡ newer ++ e ∷ older → e.event ≡ Takes line → Contains terms.live j → e.place ≢ j → terms.quiet < e.time
+      → Contains (sends_in (events_of line (judged_at numbers older e.place))) v → e.time + terms.delivery < time_of calls → Arrives numbers newer (e ∷ older) j (e.time + terms.delivery) v
   arrives newer older e line j v split takes live apart late sent long =
       record { later = c.later; call = c.call; between = c.between; split = c.split; place = c.place; soon = c.soon; now = c.now; origin = origins j i; is = c.is; member = record { known = knows_then c.call.time i j c.now rest now_at m; spoken = spoken; fit = c.fit } } where
         i : ℕ
@@ -575,17 +567,17 @@ module _ (numbers : ℕ → ℕ) (origins : ℕ → ℕ → Origin) (terms : Ter
         c : Comes numbers (origins j i) newer (e ∷ older) j (e.time + terms.delivery) v
         c = s.delivered newer older e line j v split takes live apart late sent long
 
-        rest : List JudgedCallAt
+        rest : List (At JudgedCall)
         rest = c.between ++ e ∷ older
 
         there : calls ≡ c.later ++ c.call ∷ rest
-        there = split ∙ ap (λ (cs : List JudgedCallAt). cs ++ e ∷ older) c.split ∙ append_assoc c.later (c.call ∷ c.between) (e ∷ older)
+        there = split ∙ ap (λ (cs : List (At JudgedCall)). cs ++ e ∷ older) c.split ∙ append_assoc c.later (c.call ∷ c.between) (e ∷ older)
 
         late_there : terms.quiet < c.call.time
         late_there =
-            let order = order_of c.later (c.call ∷ rest) there in
+            let order = order_there c.later (c.call ∷ rest) there in
             let le = order.0 in
-            let first = called_by c.between (e ∷ older) order.1 in
+            let first = before_end c.between (e ∷ older) order.1 in
             omega (arith, le, first, late)
 
         m : IsKnownAt c.call.time i j rest

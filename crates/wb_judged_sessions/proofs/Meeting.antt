@@ -36,10 +36,12 @@ use Rattle.wb_judged_sessions.specs.Examples.{at, numbers, start}
 use Rattle.wb_judged_sessions.specs.Known.{ComeInTime, Comes, KnowEachOther}
 use Rattle.wb_judged_sessions.specs.Knowing.{HasRoom, IsKnownSince, is_heard_since, is_known_since}
 use Rattle.wb_judged_sessions.specs.Meeting.{HaveMet, again, answered, both_know, came_again, echo, one_knows, origin_of, reports, sent_again, terms, told_again}
-use Rattle.wb_judged_sessions.specs.Sessions.{JudgedCallAt, Starts, Takes, judged_at}
+use Rattle.wb_judged_sessions.specs.Calls.{JudgedCall, Starts, Takes}
+use Rattle.wb_judged_sessions.specs.Sessions.{At, judged_at}
 use Rattle.wb_judged_sessions.specs.Terms.{AreTaken}
-use Rattle.wb_judged_sessions.specs.Timely.{AreFittingSince, AreInOrder, IsNoStart, WasSentBy, called_at}
+use Rattle.wb_judged_sessions.specs.Timely.{AreFittingSince, IsNoStart, WasSentBy}
 use Rattle.wb_judged_sessions.proofs.Staying.{known_since_earlier}
+use Rattle.wb_kept_progress.specs.Timed.{AreInOrder, time_of}
 
 -- ---- what they do
 
@@ -231,38 +233,38 @@ begins_1 = refl
 -- ---- each call
 
 -- what is so of each call, with the newer ones and the older ones
-abbrev EachCall : (List JudgedCallAt → JudgedCallAt → List JudgedCallAt → Type 0) → List JudgedCallAt → List JudgedCallAt → Type 0
+abbrev EachCall : (List (At JudgedCall) → At JudgedCall → List (At JudgedCall) → Type 0) → List (At JudgedCall) → List (At JudgedCall) → Type 0
 EachCall P newer [] = Unit {0}
 EachCall P newer (e ∷ older) = P newer e older × EachCall P (newer ++ e ∷ []) older
 
-of_split : (P : List JudgedCallAt → JudgedCallAt → List JudgedCallAt → Type 0) (front calls newer older : List JudgedCallAt) (e : JudgedCallAt) → calls ≡ newer ++ e ∷ older → EachCall P front calls
+of_split : (P : List (At JudgedCall) → At JudgedCall → List (At JudgedCall) → Type 0) (front calls newer older : List (At JudgedCall)) (e : At JudgedCall) → calls ≡ newer ++ e ∷ older → EachCall P front calls
     → P (front ++ newer) e older
 of_split P front [] [] older e split each = absurd cc
 of_split P front [] (x ∷ newer) older e split each = absurd cc
-of_split P front (y ∷ calls) [] older e split each = subst (λ (cs : List JudgedCallAt). P cs e older) (sym (append-nil front)) (subst Head split each.0) where
-  Head : List JudgedCallAt → Type 0
+of_split P front (y ∷ calls) [] older e split each = subst (λ (cs : List (At JudgedCall)). P cs e older) (sym (append-nil front)) (subst Head split each.0) where
+  Head : List (At JudgedCall) → Type 0
   Head [] = Unit {0}
   Head (x ∷ cs) = P front x cs
 of_split P front (y ∷ calls) (x ∷ newer) older e split each =
     let tails : calls ≡ newer ++ e ∷ older = cc in
     let heads : y ≡ x = cc in
-    subst (λ (cs : List JudgedCallAt). P cs e older) (append_assoc front (x ∷ []) newer)
-    (of_split P (front ++ x ∷ []) calls newer older e tails (subst (λ (z : JudgedCallAt). EachCall P (front ++ z ∷ []) calls) heads each.1))
+    subst (λ (cs : List (At JudgedCall)). P cs e older) (append_assoc front (x ∷ []) newer)
+    (of_split P (front ++ x ∷ []) calls newer older e tails (subst (λ (z : At JudgedCall). EachCall P (front ++ z ∷ []) calls) heads each.1))
 
-at_each : (P : List JudgedCallAt → JudgedCallAt → List JudgedCallAt → Type 0) → EachCall P [] told_again → (newer older : List JudgedCallAt) (e : JudgedCallAt) → told_again ≡ newer ++ e ∷ older → P newer e older
+at_each : (P : List (At JudgedCall) → At JudgedCall → List (At JudgedCall) → Type 0) → EachCall P [] told_again → (newer older : List (At JudgedCall)) (e : At JudgedCall) → told_again ≡ newer ++ e ∷ older → P newer e older
 at_each P each newer older e split = of_split P [] told_again newer older e split each
 
-abbrev third_last : JudgedCallAt
+abbrev third_last : At JudgedCall
 third_last = at 5000000 1 (Takes (Passed 5000000 Nothing))
 
-abbrev second_last : JudgedCallAt
+abbrev second_last : At JudgedCall
 second_last = at 5000001 0 (Takes (CameFrom 5000001 (origin_of 1) again))
 
-abbrev last : JudgedCallAt
+abbrev last : At JudgedCall
 last = at 5000002 1 (Takes (Passed 5000002 Nothing))
 
-late_calls : (P : List JudgedCallAt → JudgedCallAt → List JudgedCallAt → Type 0) → P [] last came_again → P (last ∷ []) second_last sent_again → P (last ∷ second_last ∷ []) third_last both_know
-    → ((newer : List JudgedCallAt) (e : JudgedCallAt) (older : List JudgedCallAt) → e.time ≤ 4000001 → P newer e older) → EachCall P [] told_again
+late_calls : (P : List (At JudgedCall) → At JudgedCall → List (At JudgedCall) → Type 0) → P [] last came_again → P (last ∷ []) second_last sent_again → P (last ∷ second_last ∷ []) third_last both_know
+    → ((newer : List (At JudgedCall)) (e : At JudgedCall) (older : List (At JudgedCall)) → e.time ≤ 4000001 → P newer e older) → EachCall P [] told_again
 late_calls P a b c rest = (
   a,
   (
@@ -277,9 +279,9 @@ late_calls P a b c rest = (
   ),
 )
 
-at_late : (P : List JudgedCallAt → JudgedCallAt → List JudgedCallAt → Type 0) → P [] last came_again → P (last ∷ []) second_last sent_again → P (last ∷ second_last ∷ []) third_last both_know
-    → ((newer : List JudgedCallAt) (e : JudgedCallAt) (older : List JudgedCallAt) → e.time ≤ 4000001 → P newer e older)
-    → (newer older : List JudgedCallAt) (e : JudgedCallAt) → told_again ≡ newer ++ e ∷ older → P newer e older
+at_late : (P : List (At JudgedCall) → At JudgedCall → List (At JudgedCall) → Type 0) → P [] last came_again → P (last ∷ []) second_last sent_again → P (last ∷ second_last ∷ []) third_last both_know
+    → ((newer : List (At JudgedCall)) (e : At JudgedCall) (older : List (At JudgedCall)) → e.time ≤ 4000001 → P newer e older)
+    → (newer older : List (At JudgedCall)) (e : At JudgedCall) → told_again ≡ newer ++ e ∷ older → P newer e older
 at_late P a b c rest newer older e split = at_each P (late_calls P a b c rest) newer older e split
 
 -- ---- two places
@@ -355,7 +357,7 @@ was_sent = record {
   sent = subst (λ (vs : List Datagram). Contains vs again) (sym fourth) (Contains-here again []);
 }
 
-abbrev Sends : JudgedCallAt → List JudgedCallAt → Call → Datagram → Type 0
+abbrev Sends : At JudgedCall → List (At JudgedCall) → Call → Datagram → Type 0
 Sends e older line v = Contains (sends_in (events_of line (judged_at numbers older e.place))) v
 
 they_come : ComeInTime numbers (λ j i. origin_of i) terms told_again
@@ -366,13 +368,13 @@ they_come = record {
   covered = omega arith;
   delays = inl (omega arith);
   fitting = by_place (λ i. AreFittingSince terms numbers i told_again) fit_0 fit_1;
-  alone = at_late (λ newer e older. terms.quiet < e.time → Contains terms.live e.place × IsNoStart e.call) (λ late. (live_1, tt)) (λ late. (live_0, tt)) (λ late. (live_1, tt))
+  alone = at_late (λ newer e older. terms.quiet < e.time → Contains terms.live e.place × IsNoStart e.event) (λ late. (live_1, tt)) (λ late. (live_0, tt)) (λ late. (live_1, tt))
       (λ newer e older le late. absurd (omega (arith, le, late)));
   drawn = λ newer older e now page op split.
-      at_late (λ newer e older. terms.quiet < e.time → e.call ≢ Takes (UserDrew now page op)) (λ late same. absurd cc) (λ late same. absurd cc) (λ late same. absurd cc)
+      at_late (λ newer e older. terms.quiet < e.time → e.event ≢ Takes (UserDrew now page op)) (λ late same. absurd cc) (λ late same. absurd cc) (λ late same. absurd cc)
       (λ newer e older le late. absurd (omega (arith, le, late))) newer older e split;
   recalled = λ newer older e line split.
-      at_late (λ newer e older. terms.quiet < e.time → e.call ≢ Takes (Held line)) (λ late same. absurd cc) (λ late same. absurd cc) (λ late same. absurd cc)
+      at_late (λ newer e older. terms.quiet < e.time → e.event ≢ Takes (Held line)) (λ late same. absurd cc) (λ late same. absurd cc) (λ late same. absurd cc)
       (λ newer e older le late. absurd (omega (arith, le, late))) newer older e split;
   soon = λ newer older e i split live.
       at_late (λ newer e older. terms.quiet < e.time → e.time ≤ due (judged_at numbers older i).kept + (terms.lag i + terms.late))
@@ -382,7 +384,7 @@ they_come = record {
       (λ newer e older le late. absurd (omega (arith, le, late))) newer older e split;
   room = free;
   delivered = λ newer older e line j v split.
-      at_late (λ newer e older. e.call ≡ Takes line → Contains terms.live j → e.place ≢ j → terms.quiet < e.time → Sends e older line v → e.time + terms.delivery < called_at told_again
+      at_late (λ newer e older. e.event ≡ Takes line → Contains terms.live j → e.place ≢ j → terms.quiet < e.time → Sends e older line v → e.time + terms.delivery < time_of told_again
       → Comes numbers (origin_of e.place) newer (e ∷ older) j (e.time + terms.delivery) v)
       (λ takes live other late sent long. absurd (omega (arith, long)))
       (λ takes live other late sent long. absurd (omega (arith, long)))
@@ -391,7 +393,7 @@ they_come = record {
       (λ other. subst (λ (w : Datagram). Comes numbers (origin_of 1) (last ∷ second_last ∷ []) (third_last ∷ both_know) 0 5000001 w) (is_again line v takes sent) comes_again) (λ other. absurd (other refl)) j live other)
       (λ newer e older le takes live other late. absurd (omega (arith, le, late))) newer older e split;
   fresh = λ newer older e now o v split.
-      at_late (λ newer e older. settled_by terms < e.time → e.call ≡ Takes (CameFrom now o v) → handed (CameFrom now o v) (judged_at numbers older e.place) ≡ Came now v → WasSentBy numbers older e.time terms.delivery v)
+      at_late (λ newer e older. settled_by terms < e.time → e.event ≡ Takes (CameFrom now o v) → handed (CameFrom now o v) (judged_at numbers older e.place) ≡ Came now v → WasSentBy numbers older e.time terms.delivery v)
       (λ late same lets. absurd cc) (λ late same lets. subst (WasSentBy numbers sent_again 5000001 1) (came_one now o v same).1 was_sent) (λ late same lets. absurd cc)
       (λ newer e older le late. absurd (omega (arith, le, late))) newer older e split;
 } where
@@ -400,7 +402,7 @@ they_come = record {
       one_of again v
       (subst (λ (vs : List Datagram). Contains vs v) fourth (subst (λ (l : Call). Contains (sends_in (events_of l (judged_at numbers both_know 1))) v) (sym (line_one line takes)) sent))
 
-  free : (newer older : List JudgedCallAt) (i : ℕ) → told_again ≡ newer ++ older → Contains terms.live i → terms.quiet < called_at older → is_full (judged_at numbers older i).kept.host ≡ false
+  free : (newer older : List (At JudgedCall)) (i : ℕ) → told_again ≡ newer ++ older → Contains terms.live i → terms.quiet < time_of older → is_full (judged_at numbers older i).kept.host ≡ false
   free newer [] i split live late = absurd (omega (arith, late))
   free newer (e ∷ older) i split live late =
       at_late (λ newer e older. terms.quiet < e.time → is_full (judged_at numbers (e ∷ older) i).kept.host ≡ false)
@@ -445,14 +447,14 @@ they_know = record {
       (λ j live other. by_place (λ j. 0 ≢ j → Knows 0 j) (λ other. absurd (other refl)) (λ other. known_before) j live other)
       (λ j live other. by_place (λ j. 1 ≢ j → Knows 1 j) (λ other. one_knows_other) (λ other. absurd (other refl)) j live other) i live_i j live_j other;
   fixed = λ newer older e now o v i split.
-      at_late (λ newer e older. terms.quiet < e.time → e.call ≡ Takes (CameFrom now o v) → Contains terms.live i → i ≢ e.place → speaker_in v ≡ Some (numbers i)
+      at_late (λ newer e older. terms.quiet < e.time → e.event ≡ Takes (CameFrom now o v) → Contains terms.live i → i ≢ e.place → speaker_in v ≡ Some (numbers i)
       → is_answer v now (judged_at numbers older e.place).judge ≡ true → o ≡ origin_of i)
       (λ late same live other speaks answers. absurd cc)
       (λ late same live other speaks answers. by_place (λ i. i ≢ 0 → o ≡ origin_of i) (λ other. absurd (other refl)) (λ other. sym (came_one now o v same).0) i live other)
       (λ late same live other speaks answers. absurd cc)
       (λ newer e older le late. absurd (omega (arith, le, late))) newer older e split;
   stay = λ newer older e now o i split.
-      at_late (λ newer e older. terms.quiet < e.time → e.call ≡ Takes (Passed now (Gone o)) → Contains terms.live i → i ≢ e.place → o ≢ origin_of i) (λ late same. absurd cc) (λ late same. absurd cc) (λ late same. absurd cc)
+      at_late (λ newer e older. terms.quiet < e.time → e.event ≡ Takes (Passed now (Gone o)) → Contains terms.live i → i ≢ e.place → o ≢ origin_of i) (λ late same. absurd cc) (λ late same. absurd cc) (λ late same. absurd cc)
       (λ newer e older le late. absurd (omega (arith, le, late))) newer older e split;
   room = at_late (λ newer e older. terms.quiet < e.time → HasRoom (judged_at numbers older e.place).judge)
       (λ late. record { known = few _ _ knows_9 some_known; others = few _ _ heard_9 some_others })

@@ -16,7 +16,8 @@ use Rattle.wb_keeping.specs.Performing.{Keeping, after_doing, after_lines, sees,
 use Rattle.wb_keeping.specs.Views.{View}
 use Rattle.wb_judging.proofs.Heard.{filter_of_filter}
 use Rattle.wb_laws_kept.specs.Kept.{gained_by_line}
-use Rattle.wb_judged_sessions.specs.Sessions.{PlainIsTheSame, plain_line}
+use Rattle.wb_judged_sessions.specs.Calls.{plain_line}
+use Rattle.wb_judged_sessions.specs.Sessions.{PlainIsTheSame}
 use Rattle.wb_laws_machines.specs.Maps.{plain}
 
 abbrev pub of_others : ℕ → List Echo → List Echo

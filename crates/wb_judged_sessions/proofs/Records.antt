@@ -27,7 +27,8 @@ use Rattle.wb_laws_sessions.proofs.Drawn.{numbers_count}
 use Rattle.wb_laws_machines.proofs.Names.{at_most_highest}
 use Rattle.wb_laws_sessions.specs.Drawn.{AreHonest}
 use Rattle.wb_judged_sessions.specs.Laws.{BoardsAreFiles, FilesAreWhole, RecordsTell}
-use Rattle.wb_judged_sessions.specs.Sessions.{Holds, JudgedCall, JudgedCallAt, Start, Starts, Takes, Tunes, after_call, drawn_at, drawn_by, drawn_by_line, judged_at, kept_calls, started}
+use Rattle.wb_judged_sessions.specs.Calls.{after_call, drawn_by, drawn_by_line, JudgedCall, Start, started, Starts, Takes, Tunes}
+use Rattle.wb_judged_sessions.specs.Sessions.{At, drawn_at, Holds, judged_at, kept_calls}
 use Rattle.wb_judged_sessions.specs.Terms.{AreTaken, DrawopsWereHeld, IsItsFile, IsWholeRecord, KnowTheirOwn, KnowsItsOwn, RecordsAreWhole, file_after, file_at}
 use Rattle.wb_judged_sessions.proofs.Drawn.{draws_as_kept}
 use Rattle.wb_judged_sessions.proofs.Kept.{judged_is_kept}
@@ -83,7 +84,7 @@ boards_are_files numbers (e ∷ older) i =
     let h = judged_at numbers older i in
     let file = file_at numbers older i in
     let rest = boards_are_files numbers older i in
-    file_if (nat_eq e.place i) (after_call e.call h) h (file_after e.call h file) file (call_files e.call h file rest) rest
+    file_if (nat_eq e.place i) (after_call e.event h) h (file_after e.event h file) file (call_files e.event h file rest) rest
 
 -- ---- members hold what they drew
 
@@ -102,7 +103,7 @@ line_gains (UserDrew now page op) h d c =
     subst (λ (held : List DrawopValue). Contains held d) (sym g.is) (Contains-append_right (held_by h) g.more d (subst (λ (ds : List DrawopValue). Contains ds d) (gained_kept line h.kept) c))
 
 module _ (numbers : ℕ → ℕ) where
-  call_holds : (call : JudgedCall) (older : List JudgedCallAt) (i : ℕ) → ((start : Start) (given : List RecordLine) → call ≡ Starts start given → IsWholeRecord numbers older i start given)
+  call_holds : (call : JudgedCall) (older : List (At JudgedCall)) (i : ℕ) → ((start : Start) (given : List RecordLine) → call ≡ Starts start given → IsWholeRecord numbers older i start given)
       → ((d : DrawopValue) → Contains (drawn_at numbers older i) d → Holds numbers older i d)
       → (d : DrawopValue) → Contains (drawn_by call (judged_at numbers older i) ++ drawn_at numbers older i) d → Contains (held_by (after_call call (judged_at numbers older i))) d
   call_holds (Starts start given) older i whole own d c =
@@ -115,11 +116,11 @@ module _ (numbers : ℕ → ℕ) where
       (Contains-append_cases (drawn_by_line line h) (drawn_at numbers older i) d c)
   call_holds (Tunes constants) older i whole own d c = own d c
 
-  whole_for : (e : JudgedCallAt) (older : List JudgedCallAt) (i : ℕ) → RecordsAreWhole numbers (e ∷ older) → e.place ≡ i
-      → (start : Start) (given : List RecordLine) → e.call ≡ Starts start given → IsWholeRecord numbers older i start given
+  whole_for : (e : At JudgedCall) (older : List (At JudgedCall)) (i : ℕ) → RecordsAreWhole numbers (e ∷ older) → e.place ≡ i
+      → (start : Start) (given : List RecordLine) → e.event ≡ Starts start given → IsWholeRecord numbers older i start given
   whole_for e older i whole is start given called = subst (λ (p : ℕ). IsWholeRecord numbers older p start given) is (whole.0 start given called)
 
-  pub own_held : (calls : List JudgedCallAt) → RecordsAreWhole numbers calls → (i : ℕ) (d : DrawopValue) → Contains (drawn_at numbers calls i) d → Holds numbers calls i d
+  pub own_held : (calls : List (At JudgedCall)) → RecordsAreWhole numbers calls → (i : ℕ) (d : DrawopValue) → Contains (drawn_at numbers calls i) d → Holds numbers calls i d
   own_held [] whole i d c = absurd (Contains-none d c)
   own_held (e ∷ older) whole i d c = by (nat_eq e.place i) refl (own_held older whole.1 i) c where
     h : Judged
@@ -129,16 +130,16 @@ module _ (numbers : ℕ → ℕ) where
     before = drawn_at numbers older i
 
     by : (b : Bool) → nat_eq e.place i ≡ b → ((d : DrawopValue) → Contains before d → Contains (held_by h) d)
-        → Contains (cond b (drawn_by e.call h ++ before) before) d → Contains (held_by (cond b (after_call e.call h) h)) d
-    by true is own c = call_holds e.call older i (whole_for e older i whole (eqb-true e.place i is)) own d c
+        → Contains (cond b (drawn_by e.event h ++ before) before) d → Contains (held_by (cond b (after_call e.event h) h)) d
+    by true is own c = call_holds e.event older i (whole_for e older i whole (eqb-true e.place i is)) own d c
     by false is own c = own d c
 
   -- ---- and know their own numbers
 
-  pub number_at : (calls : List JudgedCallAt) (i : ℕ) → (judged_at numbers calls i).kept.host.is.number ≡ numbers i
+  pub number_at : (calls : List (At JudgedCall)) (i : ℕ) → (judged_at numbers calls i).kept.host.is.number ≡ numbers i
   number_at calls i = ap (λ (k : Keeping). k.host.is.number) (judged_is_kept numbers calls i) ∙ number_of_kept numbers (kept_calls numbers calls) i
 
-  knows : (older : List JudgedCallAt) → AreHonest numbers (steps_of numbers (kept_calls numbers older)) → RecordsAreWhole numbers older → (i : ℕ) (page : PageId) → KnowsItsOwn numbers older i page
+  knows : (older : List (At JudgedCall)) → AreHonest numbers (steps_of numbers (kept_calls numbers older)) → RecordsAreWhole numbers older → (i : ℕ) (page : PageId) → KnowsItsOwn numbers older i page
   knows older honest whole i page d c on =
       let host : Opened = (judged_at numbers older i).kept.host in
       let top : d.name.seq ≤ highest d.name.page d.name.source host.is.held = at_most_highest host.is.held d (own_held older whole i d c) in
@@ -148,7 +149,7 @@ module _ (numbers : ℕ → ℕ) where
       subst (λ (s : ℕ). d.name.seq ≤ highest page s host.is.held) source (subst (λ (p : PageId). d.name.seq ≤ highest p d.name.source host.is.held) on top) in
       omega (arith, le)
 
-  pub know_all : (calls : List JudgedCallAt) → AreTaken numbers calls → DrawopsWereHeld numbers calls → RecordsAreWhole numbers calls → KnowTheirOwn numbers calls
+  pub know_all : (calls : List (At JudgedCall)) → AreTaken numbers calls → DrawopsWereHeld numbers calls → RecordsAreWhole numbers calls → KnowTheirOwn numbers calls
   know_all [] taken were whole = tt
   know_all (e ∷ older) taken were whole =
       let rest = know_all older taken.1 were.1 whole.1 in
@@ -161,7 +162,7 @@ records_tell numbers calls apart taken were whole = know_all numbers calls taken
 
 -- ---- files are whole
 
-module _ (numbers : ℕ → ℕ) (older : List JudgedCallAt) (i : ℕ) (start : Start) (given : List RecordLine)
+module _ (numbers : ℕ → ℕ) (older : List (At JudgedCall)) (i : ℕ) (start : Start) (given : List RecordLine)
     (own : (d : DrawopValue) → Contains (drawn_at numbers older i) d → Holds numbers older i d) where
   abbrev file : List RecordLine
   file = file_at numbers older i

@@ -37,7 +37,8 @@ use Rattle.wb_judging.specs.Performing.{after_judged, events_of, fate_by, judgin
 use Rattle.wb_judging.proofs.AsKept.{sends_as_kept}
 use Rattle.wb_judging.proofs.NewsTold.{news_keeps}
 use Rattle.wb_judged_sessions.specs.Laws.{HasNotStarted}
-use Rattle.wb_judged_sessions.specs.Sessions.{JudgedCall, JudgedCallAt, Start, Starts, Takes, Tunes, after_call, judged_at, sent_by}
+use Rattle.wb_judged_sessions.specs.Calls.{after_call, JudgedCall, sent_by, Start, Starts, Takes, Tunes}
+use Rattle.wb_judged_sessions.specs.Sessions.{At, judged_at}
 use Rattle.wb_judged_sessions.specs.Terms.{AreTaken}
 use Rattle.wb_judged_sessions.proofs.Answered.{after_it}
 use Rattle.wb_judged_sessions.proofs.Echoed.{IsReported, report_moment, reported, taken_line}
@@ -54,10 +55,10 @@ reports_among (AskPages asker ∷ vs) = reports_among vs
 reports_among (PageState s page marks ∷ vs) = reports_among vs
 
 -- how many the member at a place sent by newer calls over older ones
-abbrev pub reports_by : (ℕ → ℕ) → ℕ → (newer older : List JudgedCallAt) → ℕ
+abbrev pub reports_by : (ℕ → ℕ) → ℕ → (newer older : List (At JudgedCall)) → ℕ
 reports_by numbers place [] older = 0
 reports_by numbers place (e ∷ newer) older =
-    cond (nat_eq e.place place) (reports_among (sent_by e.call (judged_at numbers (newer ++ older) place))) 0 + reports_by numbers place newer older
+    cond (nat_eq e.place place) (reports_among (sent_by e.event (judged_at numbers (newer ++ older) place))) 0 + reports_by numbers place newer older
 
 -- ---- a moment among the last ones
 
@@ -214,7 +215,7 @@ reporting line h s moment page marks es none c = new_sent (sent_by_kept_line (ha
       report_moment line h t m on ms (with_echo (own_echo (moment_of line h) (judging line h)) fs) none (record { plain = fs; among = d; echoed = refl })
       ∙ sym (report_moment line h s moment page marks es none r)
 
-calls_keep : (numbers : ℕ → ℕ) (place : ℕ) (newer older : List JudgedCallAt) (moment left : ℕ) → HasNotStarted newer place → IsKept moment (reports_by numbers place newer older + left) (judged_at numbers older place).judge.own
+calls_keep : (numbers : ℕ → ℕ) (place : ℕ) (newer older : List (At JudgedCall)) (moment left : ℕ) → HasNotStarted newer place → IsKept moment (reports_by numbers place newer older + left) (judged_at numbers older place).judge.own
     → IsKept moment left (judged_at numbers (newer ++ older) place).judge.own
 calls_keep numbers place [] older moment left not k = fewer moment (0 + left) left (judged_at numbers older place).judge.own (omega arith) k
 calls_keep numbers place (e ∷ newer) older moment left not k =
@@ -225,7 +226,7 @@ calls_keep numbers place (e ∷ newer) older moment left not k =
       h = judged_at numbers (newer ++ older) place
 
       count : Bool → ℕ
-      count b = cond b (reports_among (sent_by e.call h)) 0
+      count b = cond b (reports_among (sent_by e.event h)) 0
 
       goes : (call : JudgedCall) → ((start : Start) (given : List RecordLine) → call ≡ Starts start given → ⊥) → IsKept moment (reports_among (sent_by call h) + left) h.judge.own
           → IsKept moment left (after_call call h).judge.own
@@ -233,12 +234,12 @@ calls_keep numbers place (e ∷ newer) older moment left not k =
       goes (Takes line) never m = line_keeps line h moment left m
       goes (Tunes constants) never m = fewer moment (0 + left) left h.judge.own (omega arith) m
 
-      by : (b : Bool) → nat_eq e.place place ≡ b → IsKept moment (count b + left) h.judge.own → IsKept moment left (let m : Judged = cond b (after_call e.call h) h in m.judge.own)
-      by true here m = goes e.call (λ start given same. not e start given (Contains-here e newer) (eqb-true e.place place here) same) m
+      by : (b : Bool) → nat_eq e.place place ≡ b → IsKept moment (count b + left) h.judge.own → IsKept moment left (let m : Judged = cond b (after_call e.event h) h in m.judge.own)
+      by true here m = goes e.event (λ start given same. not e start given (Contains-here e newer) (eqb-true e.place place here) same) m
       by false there m = fewer moment (0 + left) left h.judge.own (omega arith) m
 
-pub kept_by_count : (numbers : ℕ → ℕ) (newer older : List JudgedCallAt) (e : JudgedCallAt) (line : Call) (sender moment : ℕ) (page : PageId) (marks : List MarkValue) (echoes : List Echo)
-    → AreTaken numbers (e ∷ older) → e.call ≡ Takes line → Contains (sends_in (events_of line (judged_at numbers older e.place))) (Session sender moment page marks echoes)
+pub kept_by_count : (numbers : ℕ → ℕ) (newer older : List (At JudgedCall)) (e : At JudgedCall) (line : Call) (sender moment : ℕ) (page : PageId) (marks : List MarkValue) (echoes : List Echo)
+    → AreTaken numbers (e ∷ older) → e.event ≡ Takes line → Contains (sends_in (events_of line (judged_at numbers older e.place))) (Session sender moment page marks echoes)
     → HasNotStarted newer e.place → reports_by numbers e.place newer (e ∷ older) < MOST_OWN → Contains (judged_at numbers (newer ++ e ∷ older) e.place).judge.own moment
 kept_by_count numbers newer older e line sender moment page marks es taken takes sent not some =
     among moment 0 (judged_at numbers (newer ++ e ∷ older) e.place).judge.own

@@ -1,5 +1,5 @@
 -- What a judged member sends is what the self-managing one sends, but for an echo of its own.
-use Rattle.std.proofs.Common.{◌≡◌, ℕ, Bool, true, false, cond, List, [], ◌∷◌, ◌++◌, ◌∙◌, Some, None, ap, map, refl, subst, sym, ⊎_elim}
+use Rattle.std.proofs.Common.{◌≡◌, ℕ, Bool, true, false, cond, List, [], ◌∷◌, ◌∙◌, Some, None, ap, map, refl, subst, sym, ⊎_elim}
 use Rattle.std.specs.Prelude.{◌-◌, Contains, Option, nat_le}
 use Rattle.std.proofs.lemmas.List.Elements.{Contains-append_cases, Contains-append_left, Contains-append_right}
 use Rattle.std.proofs.lemmas.Option.{none-some, same_Some}
@@ -24,20 +24,24 @@ use Rattle.wb_judging.specs.Performing.{after_judged, after_kept_line, events_of
 use Rattle.wb_judging.specs.declared.record.RecordLine.{RecordLine}
 use Rattle.wb_judging.proofs.AsKept.{sends_as_kept as line_sends_as_kept}
 use Rattle.wb_judging.proofs.Numbers.{me_judging, own_stays}
-use Rattle.wb_laws_kept.specs.Sessions.{CallAt, kept_at, steps_of}
-use Rattle.wb_laws_kept.proofs.Agreeing.{steps_split}
+use Rattle.wb_laws_kept.specs.Sessions.{At, kept_at, steps_of}
+use Rattle.wb_laws_kept.proofs.Agreeing.{steps_behind}
 use Rattle.wb_laws_kept.proofs.Steps.{kept_is_session}
-use Rattle.wb_laws_sessions.specs.Sessions.{Step, sent as sent_by_steps, sent_by_deeds}
-use Rattle.wb_laws_sessions.specs.Members.{Does}
-use Rattle.wb_laws_sessions.proofs.Several.{sent_longer, sent_performed, sent_then}
+use Rattle.wb_laws_sessions.specs.Sessions.{sent as sent_by_steps, sent_by_deeds}
+use Rattle.wb_laws_sessions.specs.Members.{Does, member}
+use Rattle.wb_laws_sessions.proofs.Several.{sent_performed, sent_then}
 use Rattle.wb_judged_sessions.specs.Laws.{SendsAsKept}
-use Rattle.wb_judged_sessions.specs.Sessions.{JudgedCall, JudgedCallAt, Starts, Takes, Tunes, judged_at, kept_calls, kept_then, lines_then, plain_line, sent, sent_by, sent_by_lines, started}
+use Rattle.wb_judged_sessions.specs.Calls.{AreLinesTaken, IsLineTaken, IsTaken, JudgedCall, plain_line, sent_by, sent_by_lines, started, Starts, Takes, Tunes}
+use Rattle.wb_judged_sessions.specs.Sessions.{judged_at, kept_calls, kept_then, lines_then, sent}
 use Rattle.wb_laws_machines.specs.Maps.{plain}
-use Rattle.wb_judged_sessions.specs.Terms.{AreLinesTaken, AreTaken, IsLineTaken, IsTaken}
+use Rattle.wb_judged_sessions.specs.Terms.{AreTaken}
 use Rattle.wb_judged_sessions.proofs.Echoes.{call_sends, plain_again}
-use Rattle.wb_judged_sessions.proofs.Kept.{at, call_split, judged_is_kept, lines_split}
+use Rattle.wb_judged_sessions.proofs.Kept.{at, call_behind, judged_is_kept, lines_behind}
 use Rattle.wb_judged_sessions.proofs.Plain.{plain_sent}
 use Rattle.wb_judged_sessions.proofs.Terms.{IsOwn, begins, fault_none, here, own_at, started_is}
+use Rattle.wb_laws_kept.specs.Calls.{Call as KeptCall}
+use Rattle.wb_laws_machines.proofs.Traces.{sent_later}
+use Rattle.wb_laws_machines.specs.Machines.{◌⊑◌}
 
 -- ---- one line
 
@@ -82,16 +86,14 @@ record_sends (line ∷ given) h own taken v c =
 -- ---- calls
 
 module _ (numbers : ℕ → ℕ) where
-  abbrev Sent : List CallAt → Datagram → Type 0
+  abbrev Sent : List (At KeptCall) → Datagram → Type 0
   Sent calls v = Contains (sent_by_steps numbers (steps_of numbers calls)) v
 
-  sent_later : (front older : List CallAt) (calls : List CallAt) (v : Datagram) → calls ≡ front ++ older → Sent older v → Sent calls v
-  sent_later front older calls v is c =
-      let steps = steps_split numbers front older in
-      subst (λ (cs : List CallAt). Sent cs v) (sym is) (subst (λ (s : List Step). Contains (sent_by_steps numbers s) v) (sym steps.1) (sent_longer numbers steps.0 (steps_of numbers older) v c))
+  sent_behind : {older calls : List (At KeptCall)} (v : Datagram) → older ⊑ calls → Sent older v → Sent calls v
+  sent_behind v behind c = sent_later member numbers v (steps_behind numbers behind) c
 
   module _ (time place : ℕ) where
-    sent_at_once : (line : KeptLine) (older : List CallAt) (v : Datagram) → Contains (sent_by_doing (doing_of line) (kept_at numbers older place)) v → Sent (at time place line ∷ older) v
+    sent_at_once : (line : KeptLine) (older : List (At KeptCall)) (v : Datagram) → Contains (sent_by_doing (doing_of line) (kept_at numbers older place)) v → Sent (at time place line ∷ older) v
     sent_at_once line older v c =
         let k = kept_at numbers older place in
         let lines = (doing_of line (sees k.host) k.policy).lines in
@@ -99,20 +101,19 @@ module _ (numbers : ℕ → ℕ) where
         (subst (λ (host : Opened). Contains (sent_by_deeds (map Does lines) host) v) (sym (kept_is_session numbers older place))
         (subst (λ (vs : List Datagram). Contains vs v) (sym (sent_performed lines k.host)) c))
 
-    lines_sent : (lines : List KeptLine) (older : List CallAt) (v : Datagram) → Contains (sent_by_kept lines (kept_at numbers older place)) v → Sent (lines_then time place lines older) v
+    lines_sent : (lines : List KeptLine) (older : List (At KeptCall)) (v : Datagram) → Contains (sent_by_kept lines (kept_at numbers older place)) v → Sent (lines_then time place lines older) v
     lines_sent [] older v c = absurd (Contains-none v c)
     lines_sent (line ∷ lines) older v c =
         let k = kept_at numbers older place in
         let one = sent_by_doing (doing_of line) k in
         let first = at time place line ∷ older in
-        let split = lines_split time place lines first in
         ⊎_elim
-        (λ (now : Contains one v). sent_later split.0 first (lines_then time place lines first) v split.1 (sent_at_once line older v now))
+        (λ (now : Contains one v). sent_behind v (lines_behind time place lines first) (sent_at_once line older v now))
         (λ (later : Contains (sent_by_kept lines (after_doing (doing_of line) k)) v).
         lines_sent lines first v (subst (λ (k : Keeping). Contains (sent_by_kept lines k) v) (sym (here numbers time place line older)) later))
         (Contains-append_cases one (sent_by_kept lines (after_doing (doing_of line) k)) v c)
 
-    call_sent : (call : JudgedCall) (h : Judged) (older : List CallAt) → h.kept ≡ kept_at numbers older place → IsOwn h → IsTaken call h → (v : Datagram) → Contains (sent_by call h) v
+    call_sent : (call : JudgedCall) (h : Judged) (older : List (At KeptCall)) → h.kept ≡ kept_at numbers older place → IsOwn h → IsTaken call h → (v : Datagram) → Contains (sent_by call h) v
         → Sent (kept_then time place call h older) (plain v)
     call_sent (Starts start given) h older same own taken v c =
         let first = started h.kept.host.is.number start in
@@ -125,15 +126,14 @@ module _ (numbers : ℕ → ℕ) where
         (subst (λ (k : Keeping). Contains (sent_by_doing (doing_of (handed line h)) k) (plain v)) same (line_sends line h own taken v c)))
     call_sent (Tunes constants) h older same own taken v c = absurd (Contains-none v c)
 
-  all_sent : (calls : List JudgedCallAt) → AreTaken numbers calls → (v : Datagram) → Contains (sent numbers calls) v → Sent (kept_calls numbers calls) (plain v)
+  all_sent : (calls : List (At JudgedCall)) → AreTaken numbers calls → (v : Datagram) → Contains (sent numbers calls) v → Sent (kept_calls numbers calls) (plain v)
   all_sent [] taken v c = absurd (Contains-none v c)
   all_sent (e ∷ older) taken v c =
       let h = judged_at numbers older e.place in
-      let split = call_split e.time e.place e.call h (kept_calls numbers older) in
       ⊎_elim
-      (λ (now : Contains (sent_by e.call h) v). call_sent e.time e.place e.call h (kept_calls numbers older) (judged_is_kept numbers older e.place) (own_at numbers older e.place) taken.0 v now)
-      (λ (before : Contains (sent numbers older) v). sent_later split.0 (kept_calls numbers older) (kept_calls numbers (e ∷ older)) (plain v) split.1 (all_sent older taken.1 v before))
-      (Contains-append_cases (sent_by e.call h) (sent numbers older) v c)
+      (λ (now : Contains (sent_by e.event h) v). call_sent e.time e.place e.event h (kept_calls numbers older) (judged_is_kept numbers older e.place) (own_at numbers older e.place) taken.0 v now)
+      (λ (before : Contains (sent numbers older) v). sent_behind (plain v) (call_behind e.time e.place e.event h (kept_calls numbers older)) (all_sent older taken.1 v before))
+      (Contains-append_cases (sent_by e.event h) (sent numbers older) v c)
 
 pub sends_as_kept : SendsAsKept
 sends_as_kept numbers calls v taken c = all_sent numbers calls taken v c

@@ -12,7 +12,8 @@ use Rattle.wb_judging.specs.declared.record.RecordLine.{RecordLine}
 use Rattle.wb_laws_kept.specs.Openings.{IsOpening}
 use Rattle.wb_judged_sessions.specs.Days.{NeverADayBack, latest_before, day_of, latest_at}
 use Rattle.wb_judged_sessions.specs.Examples.{at, deletes, numbers, page}
-use Rattle.wb_judged_sessions.specs.Sessions.{JudgedCallAt, Starts, Takes, after_call, drawn_at, judged_at}
+use Rattle.wb_judged_sessions.specs.Calls.{after_call, JudgedCall, Starts, Takes}
+use Rattle.wb_judged_sessions.specs.Sessions.{At, drawn_at, judged_at}
 use Rattle.wb_judged_sessions.specs.SetBack.{IsGivenAhead, IsSetBack, IsSetBackTooFar, deletes_first, elsewhere, file, first, late, once, second, start_on, twice}
 use Rattle.wb_judged_sessions.specs.Terms.{AreTaken, KeepFiles, file_at}
 use Rattle.wb_judged_sessions.proofs.Examples.{its_by}
@@ -63,7 +64,7 @@ drew_more = refl
 -- ---- files and days
 
 module _ (wall : ℕ) where
-  abbrev started_again : List JudgedCallAt
+  abbrev started_again : List (At JudgedCall)
   started_again = at 7 0 (Starts (start_on wall 2 7) file) ∷ once
 
   files : KeepFiles numbers (twice wall)

@@ -39,8 +39,9 @@ use Rattle.wb_judging.specs.declared.record.RecordLine.{RecordLine}
 use Rattle.wb_judging.proofs.AsKept.{sends_as_kept}
 use Rattle.wb_judged_sessions.specs.Answering.{ReportsAreRemembered}
 use Rattle.wb_judged_sessions.specs.Laws.{HasNotStarted}
-use Rattle.wb_judged_sessions.specs.Sessions.{JudgedCall, JudgedCallAt, Start, Starts, Takes, Tunes, after_call, judged_at, sent_by}
-use Rattle.wb_judged_sessions.specs.Terms.{AreTaken, IsTaken}
+use Rattle.wb_judged_sessions.specs.Calls.{after_call, IsTaken, JudgedCall, sent_by, Start, Starts, Takes, Tunes}
+use Rattle.wb_judged_sessions.specs.Sessions.{At, judged_at}
+use Rattle.wb_judged_sessions.specs.Terms.{AreTaken}
 use Rattle.wb_judge.specs.declared.limits.TheConstants.{FRESH, MOST_OWN}
 use Rattle.wb_judged_sessions.proofs.Answered.{after_it, taken_part}
 use Rattle.wb_judged_sessions.proofs.Echoed.{IsReported, reported, taken_line}
@@ -223,7 +224,7 @@ next_due line h s t page marks es none c =
 
 -- ---- calls
 
-pub calls_spaced : (numbers : ℕ → ℕ) (place : ℕ) (newer older : List JudgedCallAt) → HasNotStarted newer place → AreTaken numbers (newer ++ older)
+pub calls_spaced : (numbers : ℕ → ℕ) (place : ℕ) (newer older : List (At JudgedCall)) → HasNotStarted newer place → AreTaken numbers (newer ++ older)
     → IsSpaced (reports_by numbers place newer older) (judged_at numbers older place).kept (judged_at numbers (newer ++ older) place).kept
 calls_spaced numbers place [] older not taken = record { later = omega arith; due = omega arith; last = λ some. absurd (omega (arith, some)) }
 calls_spaced numbers place (e ∷ newer) older not taken =
@@ -240,14 +241,14 @@ calls_spaced numbers place (e ∷ newer) older not taken =
       goes (Tunes constants) never t = record { later = omega arith; due = omega arith; last = λ some. absurd (omega (arith, some)) }
 
       by : (b : Bool) → nat_eq e.place place ≡ b → IsSpaced (reports_by numbers place newer older) first h.kept
-          → IsSpaced (cond b (reports_among (sent_by e.call h)) 0 + reports_by numbers place newer older) first (let m : Judged = cond b (after_call e.call h) h in m.kept)
+          → IsSpaced (cond b (reports_among (sent_by e.event h)) 0 + reports_by numbers place newer older) first (let m : Judged = cond b (after_call e.event h) h in m.kept)
       by false there rest = subst (λ (c : ℕ). IsSpaced c first h.kept) (nothing_more (reports_by numbers place newer older)) rest
       by true here rest =
           let same = eqb-true e.place place here in
-          let last = goes e.call (λ start given is. not e start given (Contains-here e newer) same is) (subst (λ (p : ℕ). IsTaken e.call (judged_at numbers (newer ++ older) p)) same taken.0) in
+          let last = goes e.event (λ start given is. not e start given (Contains-here e newer) same is) (subst (λ (p : ℕ). IsTaken e.event (judged_at numbers (newer ++ older) p)) same taken.0) in
           let n = reports_by numbers place newer older in
-          let m = reports_among (sent_by e.call h) in
-          subst (λ (c : ℕ). IsSpaced c first (after_call e.call h).kept) (add_comm n m) (spaced_both n m first h.kept (after_call e.call h).kept rest last)
+          let m = reports_among (sent_by e.event h) in
+          subst (λ (c : ℕ). IsSpaced c first (after_call e.event h).kept) (add_comm n m) (spaced_both n m first h.kept (after_call e.event h).kept rest last)
 
 -- ---- so the moments of the last 256 seconds are remembered
 

@@ -21,58 +21,62 @@ use Rattle.wb_judging.specs.Performing.{after_judged, after_kept_line}
 use Rattle.wb_judging.specs.declared.record.RecordLine.{RecordLine}
 use Rattle.wb_judging.specs.declared.record.RecordLine.TheVariants.{Known, Mark, Owner, Said, Strange, Tick}
 use Rattle.wb_laws_kept.specs.Openings.{opened_host}
-use Rattle.wb_laws_kept.specs.Sessions.{Begins, CallAt, Handed}
-use Rattle.wb_kept_progress.specs.Since.{AreFittingSince as AreKeptFitting, AreInOrder as AreKeptInOrder, IsFitting, IsFittingSince as IsKeptFitting, called_at as kept_called_at}
+use Rattle.wb_laws_kept.specs.Sessions.{At}
+use Rattle.wb_kept_progress.specs.Since.{AreFittingSince as AreKeptFitting, IsFitting, IsFittingSince as IsKeptFitting}
 use Rattle.wb_kept_progress.proofs.Moments.{moment_of as kept_moment, told_itself}
 use Rattle.wb_kept_progress.proofs.StillCalls.{IsTuning, call_now}
-use Rattle.wb_judged_sessions.specs.Sessions.{JudgedCall, JudgedCallAt, Start, Starts, Takes, Tunes, judged_at, kept_calls, kept_then, lines_then, plain_line, started}
-use Rattle.wb_judged_sessions.specs.Terms.{AreTaken, IsLineTaken, IsTaken}
-use Rattle.wb_judged_sessions.specs.Timely.{AreFittingSince, AreInOrder, IsFittingSince, IsNoStart, called_at}
+use Rattle.wb_judged_sessions.specs.Calls.{IsLineTaken, IsTaken, JudgedCall, plain_line, Start, started, Starts, Takes, Tunes}
+use Rattle.wb_judged_sessions.specs.Sessions.{judged_at, kept_calls, kept_then, lines_then}
+use Rattle.wb_judged_sessions.specs.Terms.{AreTaken}
+use Rattle.wb_judged_sessions.specs.Timely.{AreFittingSince, IsFittingSince, IsNoStart}
 use Rattle.wb_judged_sessions.proofs.Kept.{at}
 use Rattle.wb_judged_sessions.proofs.Records.{number_at}
 use Rattle.wb_judged_sessions.proofs.Terms.{begins}
+use Rattle.wb_laws_kept.specs.Calls.{Begins, Call as KeptCall, Handed}
+use Rattle.wb_kept_progress.specs.Timed.{AreInOrder, time_of}
+use Rattle.wb_progress.proofs.Parts.{no_later}
 
 -- ---- times
 
 module _ (time place : ℕ) where
-  called_lines : (lines : List KeptLine) (older : List CallAt) → kept_called_at older ≡ time → kept_called_at (lines_then time place lines older) ≡ time
+  called_lines : (lines : List KeptLine) (older : List (At KeptCall)) → time_of older ≡ time → time_of (lines_then time place lines older) ≡ time
   called_lines [] older is = is
   called_lines (line ∷ lines) older is = called_lines lines (at time place line ∷ older) refl
 
-  called_call : (numbers : ℕ → ℕ) (call : JudgedCall) (h : Judged) (older : List CallAt) → kept_called_at (kept_then time place call h older) ≡ time
+  called_call : (numbers : ℕ → ℕ) (call : JudgedCall) (h : Judged) (older : List (At KeptCall)) → time_of (kept_then time place call h older) ≡ time
   called_call numbers (Starts start given) h older = called_lines (expanded (map Held given) (started h.kept.host.is.number start)) (begins numbers time place start ∷ older) refl
   called_call numbers (Takes line) h older = refl
   called_call numbers (Tunes constants) h older = refl
 
-  order_lines : (lines : List KeptLine) (older : List CallAt) → kept_called_at older ≤ time → AreKeptInOrder older → AreKeptInOrder (lines_then time place lines older)
+  order_lines : (lines : List KeptLine) (older : List (At KeptCall)) → time_of older ≤ time → AreInOrder older → AreInOrder (lines_then time place lines older)
   order_lines [] older le order = order
   order_lines (line ∷ lines) older le order = order_lines lines (at time place line ∷ older) (omega arith) (le, order)
 
-  order_call : (numbers : ℕ → ℕ) (call : JudgedCall) (h : Judged) (older : List CallAt) → kept_called_at older ≤ time → AreKeptInOrder older → AreKeptInOrder (kept_then time place call h older)
+  order_call : (numbers : ℕ → ℕ) (call : JudgedCall) (h : Judged) (older : List (At KeptCall)) → time_of older ≤ time → AreInOrder older → AreInOrder (kept_then time place call h older)
   order_call numbers (Starts start given) h older le order =
       order_lines (expanded (map Held given) (started h.kept.host.is.number start)) (begins numbers time place start ∷ older) (omega arith) (le, order)
   order_call numbers (Takes line) h older le order = (le, order)
   order_call numbers (Tunes constants) h older le order = (le, order)
 
 module _ (numbers : ℕ → ℕ) where
-  pub called_kept : (calls : List JudgedCallAt) → kept_called_at (kept_calls numbers calls) ≡ called_at calls
+  pub called_kept : (calls : List (At JudgedCall)) → time_of (kept_calls numbers calls) ≡ time_of calls
   called_kept [] = refl
-  called_kept (e ∷ older) = called_call e.time e.place numbers e.call (judged_at numbers older e.place) (kept_calls numbers older)
+  called_kept (e ∷ older) = called_call e.time e.place numbers e.event (judged_at numbers older e.place) (kept_calls numbers older)
 
-  pub order_kept : (calls : List JudgedCallAt) → AreInOrder calls → AreKeptInOrder (kept_calls numbers calls)
+  pub order_kept : (calls : List (At JudgedCall)) → AreInOrder calls → AreInOrder (kept_calls numbers calls)
   order_kept [] order = tt
   order_kept (e ∷ older) order =
-      order_call e.time e.place numbers e.call (judged_at numbers older e.place) (kept_calls numbers older) (subst (λ (t : ℕ). t ≤ e.time) (sym (called_kept older)) order.0) (order_kept older order.1)
+      order_call e.time e.place numbers e.event (judged_at numbers older e.place) (kept_calls numbers older) (subst (λ (t : ℕ). t ≤ e.time) (sym (called_kept older)) order.0) (order_kept older order.1)
 
 -- times of the newer calls are no earlier
-pub later_calls : (newer older : List JudgedCallAt) → AreInOrder (newer ++ older) → (c : JudgedCallAt) → Contains newer c → called_at older ≤ c.time
+pub later_calls : (newer older : List (At JudgedCall)) → AreInOrder (newer ++ older) → (c : At JudgedCall) → Contains newer c → time_of older ≤ c.time
 later_calls [] older order c among = absurd (Contains-none c among)
 later_calls (e ∷ newer) older order c among = ⊎_elim
-    (λ (now : e ≡ c). subst (λ (x : JudgedCallAt). called_at older ≤ x.time) now (by newer order.0 order.1 (later_calls newer older order.1)))
+    (λ (now : e ≡ c). subst (λ (x : At JudgedCall). time_of older ≤ x.time) now (by newer order.0 order.1 (later_calls newer older order.1)))
     (λ (before : Contains newer c). later_calls newer older order.1 c before)
     (Contains-cases e c newer among) where
-      by : (newer : List JudgedCallAt) → called_at (newer ++ older) ≤ e.time → AreInOrder (newer ++ older) → ((c : JudgedCallAt) → Contains newer c → called_at older ≤ c.time)
-          → called_at older ≤ e.time
+      by : (newer : List (At JudgedCall)) → time_of (newer ++ older) ≤ e.time → AreInOrder (newer ++ older) → ((c : At JudgedCall) → Contains newer c → time_of older ≤ c.time)
+          → time_of older ≤ e.time
       by [] le order rest = le
       by (x ∷ newer) le order rest = let first = rest x (Contains-here x newer) in omega (arith, le, first)
 
@@ -138,25 +142,25 @@ module _ (terms : Terms) (time place : ℕ) where
 
 module _ (terms : Terms) (number i time place : ℕ) where
   -- lines at the place, and elsewhere
-  fit_there : nat_eq place i ≡ true → (lines : List KeptLine) (older : List CallAt) → Fit terms time i lines → AreKeptFitting terms number i older
+  fit_there : nat_eq place i ≡ true → (lines : List KeptLine) (older : List (At KeptCall)) → Fit terms time i lines → AreKeptFitting terms number i older
       → AreKeptFitting terms number i (lines_then time place lines older)
   fit_there here [] older fit rest = rest
   fit_there here (line ∷ lines) older fit rest =
       fit_there here lines (at time place line ∷ older) fit.1
       (subst (λ (b : Bool). IsKeptFitting terms number i b time (Handed line) (AreKeptFitting terms number i older)) (sym here) (fit.0, rest))
 
-  fit_elsewhere : nat_eq place i ≡ false → (lines : List KeptLine) (older : List CallAt) → AreKeptFitting terms number i older → AreKeptFitting terms number i (lines_then time place lines older)
+  fit_elsewhere : nat_eq place i ≡ false → (lines : List KeptLine) (older : List (At KeptCall)) → AreKeptFitting terms number i older → AreKeptFitting terms number i (lines_then time place lines older)
   fit_elsewhere other [] older rest = rest
   fit_elsewhere other (line ∷ lines) older rest =
       fit_elsewhere other lines (at time place line ∷ older) (subst (λ (b : Bool). IsKeptFitting terms number i b time (Handed line) (AreKeptFitting terms number i older)) (sym other) rest)
 
-  fit_takes : (b : Bool) → nat_eq place i ≡ b → (line : Call) (h : Judged) (older : List CallAt) (before : Type 0) → IsFittingSince terms number i b time (Takes line) h before
+  fit_takes : (b : Bool) → nat_eq place i ≡ b → (line : Call) (h : Judged) (older : List (At KeptCall)) (before : Type 0) → IsFittingSince terms number i b time (Takes line) h before
       → (before → AreKeptFitting terms number i older)
       → AreKeptFitting terms number i (lines_then time place (plain_line (handed line h) ∷ []) older)
   fit_takes true here line h older before is rest = fit_there here (plain_line (handed line h) ∷ []) older (fits_line terms time i line h is.0, tt) (rest is.1)
   fit_takes false other line h older before is rest = fit_elsewhere other (plain_line (handed line h) ∷ []) older (rest is)
 
-  fit_starts : (numbers : ℕ → ℕ) (b : Bool) → nat_eq place i ≡ b → (start : Start) (given : List RecordLine) (h : Judged) → h.kept.host.is.number ≡ number → (older : List CallAt) (before : Type 0)
+  fit_starts : (numbers : ℕ → ℕ) (b : Bool) → nat_eq place i ≡ b → (start : Start) (given : List RecordLine) (h : Judged) → h.kept.host.is.number ≡ number → (older : List (At KeptCall)) (before : Type 0)
       → IsFittingSince terms number i b time (Starts start given) h before → (before → AreKeptFitting terms number i older)
       → AreKeptFitting terms number i (kept_then time place (Starts start given) h older)
   fit_starts numbers true here start given h own older before is rest =
@@ -168,7 +172,7 @@ module _ (terms : Terms) (number i time place : ℕ) where
       fit_elsewhere other (expanded (map Held given) (started h.kept.host.is.number start)) (begins numbers time place start ∷ older)
       (subst (λ (b : Bool). IsKeptFitting terms number i b time (Begins start.opening []) (AreKeptFitting terms number i older)) (sym other) (rest is))
 
-  fit_call : (numbers : ℕ → ℕ) (call : JudgedCall) (h : Judged) → (nat_eq place i ≡ true → h.kept.host.is.number ≡ number) → (older : List CallAt) (before : Type 0)
+  fit_call : (numbers : ℕ → ℕ) (call : JudgedCall) (h : Judged) → (nat_eq place i ≡ true → h.kept.host.is.number ≡ number) → (older : List (At KeptCall)) (before : Type 0)
       → IsFittingSince terms number i (nat_eq place i) time call h before → (before → AreKeptFitting terms number i older) → AreKeptFitting terms number i (kept_then time place call h older)
   fit_call numbers (Takes line) h own older before is rest = fit_takes (nat_eq place i) refl line h older before is rest
   fit_call numbers (Tunes constants) h own older before is rest = by (nat_eq place i) refl is where
@@ -182,34 +186,23 @@ module _ (terms : Terms) (number i time place : ℕ) where
         fit_elsewhere other (expanded (map Held given) (started h.kept.host.is.number start)) (begins numbers time place start ∷ older)
         (subst (λ (b : Bool). IsKeptFitting terms number i b time (Begins start.opening []) (AreKeptFitting terms number i older)) (sym other) (rest is))
 
-pub fit_kept : (numbers : ℕ → ℕ) (terms : Terms) (i : ℕ) (calls : List JudgedCallAt) → AreFittingSince terms numbers i calls → AreKeptFitting terms (numbers i) i (kept_calls numbers calls)
+pub fit_kept : (numbers : ℕ → ℕ) (terms : Terms) (i : ℕ) (calls : List (At JudgedCall)) → AreFittingSince terms numbers i calls → AreKeptFitting terms (numbers i) i (kept_calls numbers calls)
 fit_kept numbers terms i [] is = absurd is
 fit_kept numbers terms i (e ∷ older) is =
-    fit_call terms (numbers i) i e.time e.place numbers e.call (judged_at numbers older e.place) (λ here. number_at numbers older e.place ∙ ap numbers (eqb-true e.place i here))
+    fit_call terms (numbers i) i e.time e.place numbers e.event (judged_at numbers older e.place) (λ here. number_at numbers older e.place ∙ ap numbers (eqb-true e.place i here))
     (kept_calls numbers older) (AreFittingSince terms numbers i older) is (fit_kept numbers terms i older)
 
 -- ---- a call after `quiet` is one line
 
-pub taken_call : (numbers : ℕ → ℕ) (newer older : List JudgedCallAt) (e : JudgedCallAt) → AreTaken numbers (newer ++ e ∷ older) → IsTaken e.call (judged_at numbers older e.place)
+pub taken_call : (numbers : ℕ → ℕ) (newer older : List (At JudgedCall)) (e : At JudgedCall) → AreTaken numbers (newer ++ e ∷ older) → IsTaken e.event (judged_at numbers older e.place)
 taken_call numbers [] older e taken = taken.0
 taken_call numbers (x ∷ newer) older e taken = taken_call numbers newer older e taken.1
 
-pub taken_at : (numbers : ℕ → ℕ) (newer older : List JudgedCallAt) (e : JudgedCallAt) (line : Call) → AreTaken numbers (newer ++ e ∷ older) → e.call ≡ Takes line
+pub taken_at : (numbers : ℕ → ℕ) (newer older : List (At JudgedCall)) (e : At JudgedCall) (line : Call) → AreTaken numbers (newer ++ e ∷ older) → e.event ≡ Takes line
     → IsLineTaken line (judged_at numbers older e.place)
 taken_at numbers newer older e line taken takes = subst (λ (call : JudgedCall). IsTaken call (judged_at numbers older e.place)) takes (taken_call numbers newer older e taken)
 
-pub order_part : (newer older : List JudgedCallAt) → AreInOrder (newer ++ older) → AreInOrder older
-order_part [] older order = order
-order_part (e ∷ newer) older order = order_part newer older order.1
-
-kept_no_later : (cs : List CallAt) (c : CallAt) → AreKeptInOrder cs → Contains cs c → c.time ≤ kept_called_at cs
-kept_no_later [] c order among = absurd (Contains-none c among)
-kept_no_later (x ∷ cs) c order among = ⊎_elim
-    (λ (now : x ≡ c). subst (λ (y : CallAt). y.time ≤ x.time) now (omega arith))
-    (λ (before : Contains cs c). let le = kept_no_later cs c order.1 before in let first = order.0 in omega (arith, le, first))
-    (Contains-cases x c cs among)
-
-pub takes_is : (numbers : ℕ → ℕ) (e : JudgedCallAt) (older : List JudgedCallAt) (line : Call) → e.call ≡ Takes line
+pub takes_is : (numbers : ℕ → ℕ) (e : At JudgedCall) (older : List (At JudgedCall)) (line : Call) → e.event ≡ Takes line
     → kept_calls numbers (e ∷ older) ≡ at e.time e.place (plain_line (handed line (judged_at numbers older e.place))) ∷ kept_calls numbers older
 takes_is numbers e older line takes = ap (λ (call : JudgedCall). kept_then e.time e.place call (judged_at numbers older e.place) (kept_calls numbers older)) takes
 
@@ -219,9 +212,9 @@ line_for (Starts start given) steady h = absurd steady
 line_for (Takes line) steady h = plain_line (handed line h)
 line_for (Tunes constants) steady h = Tuned constants
 
-pub line_is : (numbers : ℕ → ℕ) (e : JudgedCallAt) (older : List JudgedCallAt) (steady : IsNoStart e.call)
-    → kept_calls numbers (e ∷ older) ≡ at e.time e.place (line_for e.call steady (judged_at numbers older e.place)) ∷ kept_calls numbers older
-line_is numbers e older steady = by e.call steady where
+pub line_is : (numbers : ℕ → ℕ) (e : At JudgedCall) (older : List (At JudgedCall)) (steady : IsNoStart e.event)
+    → kept_calls numbers (e ∷ older) ≡ at e.time e.place (line_for e.event steady (judged_at numbers older e.place)) ∷ kept_calls numbers older
+line_is numbers e older steady = by e.event steady where
   h : Judged
   h = judged_at numbers older e.place
 
@@ -231,49 +224,49 @@ line_is numbers e older steady = by e.call steady where
   by (Tunes constants) steady = refl
 
 -- a call of a self-managing member is that of a judged one
-pub record FromCall (numbers : ℕ → ℕ) (calls : List JudgedCallAt) (e : CallAt) (older : List CallAt) : Type 0 where
-  pub later : List JudgedCallAt
-  pub call : JudgedCallAt
-  pub before : List JudgedCallAt
+pub record FromCall (numbers : ℕ → ℕ) (calls : List (At JudgedCall)) (e : At KeptCall) (older : List (At KeptCall)) : Type 0 where
+  pub later : List (At JudgedCall)
+  pub call : At JudgedCall
+  pub before : List (At JudgedCall)
   pub split : calls ≡ later ++ call ∷ before
-  pub steady : IsNoStart call.call
-  pub is : e ≡ at call.time call.place (line_for call.call steady (judged_at numbers before call.place))
+  pub steady : IsNoStart call.event
+  pub is : e ≡ at call.time call.place (line_for call.event steady (judged_at numbers before call.place))
   pub older_is : older ≡ kept_calls numbers before
 
-one_more : (numbers : ℕ → ℕ) (calls : List JudgedCallAt) (c : JudgedCallAt) (e : CallAt) (older : List CallAt) → FromCall numbers calls e older → FromCall numbers (c ∷ calls) e older
+one_more : (numbers : ℕ → ℕ) (calls : List (At JudgedCall)) (c : At JudgedCall) (e : At KeptCall) (older : List (At KeptCall)) → FromCall numbers calls e older → FromCall numbers (c ∷ calls) e older
 one_more numbers calls c e older f =
-    record { later = c ∷ f.later; call = f.call; before = f.before; split = ap (λ (cs : List JudgedCallAt). c ∷ cs) f.split; steady = f.steady; is = f.is; older_is = f.older_is }
+    record { later = c ∷ f.later; call = f.call; before = f.before; split = ap (λ (cs : List (At JudgedCall)). c ∷ cs) f.split; steady = f.steady; is = f.is; older_is = f.older_is }
 
-abbrev NoneStarts : ℕ → List JudgedCallAt → Type 0
-NoneStarts quiet calls = (newer older : List JudgedCallAt) (e : JudgedCallAt) → calls ≡ newer ++ e ∷ older → quiet < e.time → IsNoStart e.call
+abbrev NoneStarts : ℕ → List (At JudgedCall) → Type 0
+NoneStarts quiet calls = (newer older : List (At JudgedCall)) (e : At JudgedCall) → calls ≡ newer ++ e ∷ older → quiet < e.time → IsNoStart e.event
 
-pub from_call : (numbers : ℕ → ℕ) (quiet : ℕ) (calls : List JudgedCallAt) → AreInOrder calls → NoneStarts quiet calls → (newer older : List CallAt) (e : CallAt)
+pub from_call : (numbers : ℕ → ℕ) (quiet : ℕ) (calls : List (At JudgedCall)) → AreInOrder calls → NoneStarts quiet calls → (newer older : List (At KeptCall)) (e : At KeptCall)
     → kept_calls numbers calls ≡ newer ++ e ∷ older → quiet < e.time → FromCall numbers calls e older
 from_call numbers quiet [] order alone newer older e split late =
-    absurd (Contains-none e (subst (λ (cs : List CallAt). Contains cs e) (sym split) (Contains-append_right newer (e ∷ older) e (Contains-here e older))))
+    absurd (Contains-none e (subst (λ (cs : List (At KeptCall)). Contains cs e) (sym split) (Contains-append_right newer (e ∷ older) e (Contains-here e older))))
 from_call numbers quiet (c ∷ rest) order alone newer older e split late =
     by (nat_lt quiet c.time) refl
-    (λ newer split. from_call numbers quiet rest order.1 (λ newer older e split late. alone (c ∷ newer) older e (ap (λ (cs : List JudgedCallAt). c ∷ cs) split) late) newer older e split late) where
-      kept : List CallAt
+    (λ newer split. from_call numbers quiet rest order.1 (λ newer older e split late. alone (c ∷ newer) older e (ap (λ (cs : List (At JudgedCall)). c ∷ cs) split) late) newer older e split late) where
+      kept : List (At KeptCall)
       kept = kept_calls numbers (c ∷ rest)
 
       among : Contains kept e
-      among = subst (λ (cs : List CallAt). Contains cs e) (sym split) (Contains-append_right newer (e ∷ older) e (Contains-here e older))
+      among = subst (λ (cs : List (At KeptCall)). Contains cs e) (sym split) (Contains-append_right newer (e ∷ older) e (Contains-here e older))
 
       early : nat_lt quiet c.time ≡ false → ⊥
       early above =
-          let le = kept_no_later kept e (order_kept numbers (c ∷ rest) order) among in
+          let le = no_later kept e (order_kept numbers (c ∷ rest) order) among in
           let at_c = called_kept numbers (c ∷ rest) in
           let not = ltb-false quiet c.time above in
           omega (arith, le, at_c, late, not)
 
-      with_line : (t : IsNoStart c.call) → ((newer : List CallAt) → kept_calls numbers rest ≡ newer ++ e ∷ older → FromCall numbers rest e older)
-          → (newer : List CallAt) → at c.time c.place (line_for c.call t (judged_at numbers rest c.place)) ∷ kept_calls numbers rest ≡ newer ++ e ∷ older → FromCall numbers (c ∷ rest) e older
+      with_line : (t : IsNoStart c.event) → ((newer : List (At KeptCall)) → kept_calls numbers rest ≡ newer ++ e ∷ older → FromCall numbers rest e older)
+          → (newer : List (At KeptCall)) → at c.time c.place (line_for c.event t (judged_at numbers rest c.place)) ∷ kept_calls numbers rest ≡ newer ++ e ∷ older → FromCall numbers (c ∷ rest) e older
       with_line t again [] split = record { later = []; call = c; before = rest; split = refl; steady = t; is = sym cc; older_is = sym cc }
       with_line t again (x ∷ newer) split =
           let same : kept_calls numbers rest ≡ newer ++ e ∷ older = cc in
           one_more numbers rest c e older (again newer same)
 
-      by : (b : Bool) → nat_lt quiet c.time ≡ b → ((newer : List CallAt) → kept_calls numbers rest ≡ newer ++ e ∷ older → FromCall numbers rest e older) → FromCall numbers (c ∷ rest) e older
+      by : (b : Bool) → nat_lt quiet c.time ≡ b → ((newer : List (At KeptCall)) → kept_calls numbers rest ≡ newer ++ e ∷ older → FromCall numbers rest e older) → FromCall numbers (c ∷ rest) e older
       by true is again = let t = alone [] rest c refl (ltb-true _ _ is) in with_line t again newer (sym (line_is numbers c rest t) ∙ split)
       by false is again = absurd (early is)

@@ -17,7 +17,8 @@ use Rattle.wb_laws_sessions.specs.Drawn.{AreHonest, WasDrawn as DrawnBySteps}
 use Rattle.wb_laws_sessions.specs.Sessions.{Step, host_at}
 use Rattle.wb_laws_sessions.proofs.Drawn.{held_once as held_once_by_steps, held_was_drawn as held_drawn_by_steps, names_mean_one as names_by_steps}
 use Rattle.wb_judged_sessions.specs.Laws.{HeldOnce, HeldWasDrawn, MarksWereDrawn, NamesMeanOne}
-use Rattle.wb_judged_sessions.specs.Sessions.{JudgedCallAt, WasDrawn, judged_at, kept_calls, sent}
+use Rattle.wb_judged_sessions.specs.Calls.{JudgedCall}
+use Rattle.wb_judged_sessions.specs.Sessions.{At, judged_at, kept_calls, sent, WasDrawn}
 use Rattle.wb_laws_machines.specs.Maps.{plain}
 use Rattle.wb_judged_sessions.specs.Terms.{IsSession}
 use Rattle.wb_judged_sessions.proofs.Drawn.{draws_as_kept}
@@ -25,7 +26,7 @@ use Rattle.wb_judged_sessions.proofs.Kept.{judged_is_kept}
 use Rattle.wb_judged_sessions.proofs.Sent.{sends_as_kept}
 use Rattle.wb_judged_sessions.proofs.Terms.{held_kept, know_kept, taken_kept}
 
-module _ (numbers : ℕ → ℕ) (calls : List JudgedCallAt) where
+module _ (numbers : ℕ → ℕ) (calls : List (At JudgedCall)) where
   abbrev steps : List Step
   steps = steps_of numbers (kept_calls numbers calls)
 

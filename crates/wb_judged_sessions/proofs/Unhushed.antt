@@ -40,8 +40,9 @@ use Rattle.wb_judging.proofs.AsKept.{sends_as_kept}
 use Rattle.wb_laws_kept.specs.Sessions.{steps_of}
 use Rattle.wb_laws_sessions.proofs.Holding.{none_held_is_asked_for}
 use Rattle.wb_laws_sessions.proofs.Sending.{one_draw}
-use Rattle.wb_judged_sessions.specs.Sessions.{JudgedCall, JudgedCallAt, Start, Starts, Takes, Tunes, after_call, judged_at, kept_calls}
-use Rattle.wb_judged_sessions.specs.Terms.{AreTaken, IsTaken}
+use Rattle.wb_judged_sessions.specs.Calls.{after_call, IsTaken, JudgedCall, Start, Starts, Takes, Tunes}
+use Rattle.wb_judged_sessions.specs.Sessions.{At, judged_at, kept_calls}
+use Rattle.wb_judged_sessions.specs.Terms.{AreTaken}
 use Rattle.wb_judged_sessions.specs.Unhushed.{AllAre, RepairsAreSent, ComesWhen, EndsRequest, IsFirmAt, IsToRepair, IsToRequest, OneIs, RequestsAreSent, Sends}
 use Rattle.wb_judged_sessions.proofs.FirmAnswers as answering
 use Rattle.wb_judged_sessions.proofs.FirmAnswers.{Answers, added_goes as added_answers, came_goes as came_answers, ticked_goes as ticked_answers}
@@ -195,13 +196,13 @@ module _ (n : NameValue) (x : AskTimer) where
 
 -- ---- many calls
 
-module _ (numbers : ℕ → ℕ) (place : ℕ) (older : List JudgedCallAt) (Is : JudgedCall → Judged → Type 0) (Ends : Call → Judged → Type 0) (Stays : Judged → Type 0) where
-  one_later : (e : JudgedCallAt) (newer : List JudgedCallAt) → OneIs Ends numbers place newer older → OneIs Ends numbers place (e ∷ newer) older
+module _ (numbers : ℕ → ℕ) (place : ℕ) (older : List (At JudgedCall)) (Is : JudgedCall → Judged → Type 0) (Ends : Call → Judged → Type 0) (Stays : Judged → Type 0) where
+  one_later : (e : At JudgedCall) (newer : List (At JudgedCall)) → OneIs Ends numbers place newer older → OneIs Ends numbers place (e ∷ newer) older
   one_later e newer one = record {
     later = e ∷ one.later;
     call = one.call;
     earlier = one.earlier;
-    split = ap (λ (calls : List JudgedCallAt). e ∷ calls) one.split;
+    split = ap (λ (calls : List (At JudgedCall)). e ∷ calls) one.split;
     here = one.here;
     line = one.line;
     takes = one.takes;
@@ -210,8 +211,8 @@ module _ (numbers : ℕ → ℕ) (place : ℕ) (older : List JudgedCallAt) (Is :
 
   module _ (never : (start : Start) (given : List RecordLine) (h : Judged) → Is (Starts start given) h → ⊥)
       (tunes : (constants : Tuning) (h : Judged) → Stays h → Stays (after_call (Tunes constants) h))
-      (step : (newer : List JudgedCallAt) (line : Call) → let h = judged_at numbers (newer ++ older) place in Is (Takes line) h → Stays h → Ends line h ⊎ Stays (after_judged line h)) where
-    called : (e : JudgedCallAt) (newer : List JudgedCallAt) (call : JudgedCall) → e.call ≡ call → e.place ≡ place
+      (step : (newer : List (At JudgedCall)) (line : Call) → let h = judged_at numbers (newer ++ older) place in Is (Takes line) h → Stays h → Ends line h ⊎ Stays (after_judged line h)) where
+    called : (e : At JudgedCall) (newer : List (At JudgedCall)) (call : JudgedCall) → e.event ≡ call → e.place ≡ place
         → let h = judged_at numbers (newer ++ older) place in Is call h → Stays h → OneIs Ends numbers place (e ∷ newer) older ⊎ Stays (after_call call h)
     called e newer (Starts start given) takes here is stays = absurd (never start given (judged_at numbers (newer ++ older) place) is)
     called e newer (Takes line) takes here is stays = ⊎_elim
@@ -220,18 +221,18 @@ module _ (numbers : ℕ → ℕ) (place : ℕ) (older : List JudgedCallAt) (Is :
         (step newer line is stays)
     called e newer (Tunes constants) takes here is stays = inr (tunes constants (judged_at numbers (newer ++ older) place) stays)
 
-    pub goes_on : (newer : List JudgedCallAt) → AllAre Is numbers place newer older → Stays (judged_at numbers older place) → OneIs Ends numbers place newer older ⊎ Stays (judged_at numbers (newer ++ older) place)
+    pub goes_on : (newer : List (At JudgedCall)) → AllAre Is numbers place newer older → Stays (judged_at numbers older place) → OneIs Ends numbers place newer older ⊎ Stays (judged_at numbers (newer ++ older) place)
     goes_on [] all is = inr is
     goes_on (e ∷ newer) all is = ⊎_elim (λ (one : OneIs Ends numbers place newer older). inl (one_later e newer one)) (λ (stays : Stays h). by (nat_eq e.place place) refl stays) (goes_on newer all.1 is) where
       h : Judged
       h = judged_at numbers (newer ++ older) place
 
-      by : (b : Bool) → nat_eq e.place place ≡ b → Stays h → OneIs Ends numbers place (e ∷ newer) older ⊎ Stays (cond b (after_call e.call h) h)
+      by : (b : Bool) → nat_eq e.place place ≡ b → Stays h → OneIs Ends numbers place (e ∷ newer) older ⊎ Stays (cond b (after_call e.event h) h)
       by false other stays = inr stays
-      by true same stays = let here = eqb-true e.place place same in called e newer e.call refl here (all.0 here) stays
+      by true same stays = let here = eqb-true e.place place same in called e newer e.event refl here (all.0 here) stays
 
 -- no request timer stands for what is held
-none_at : (numbers : ℕ → ℕ) (calls : List JudgedCallAt) (place : ℕ) (n : NameValue)
+none_at : (numbers : ℕ → ℕ) (calls : List (At JudgedCall)) (place : ℕ) (n : NameValue)
     → let host = (judged_at numbers calls place).kept.host in history_holds host.is.held n ≡ true → (timers_of host.is.constants (events host) n).ask ≡ None
 none_at numbers calls place n =
     subst (λ (host : Opened). history_holds host.is.held n ≡ true → (timers_of host.is.constants (events host) n).ask ≡ None) (host_is numbers calls place)
@@ -247,11 +248,11 @@ repairs_are_sent numbers newer older place d a is firm =
     newer firm is
 
 -- each of the calls is taken
-and_taken : (Is : JudgedCall → Judged → Type 0) (numbers : ℕ → ℕ) (place : ℕ) (newer older : List JudgedCallAt) → AreTaken numbers (newer ++ older) → AllAre Is numbers place newer older
+and_taken : (Is : JudgedCall → Judged → Type 0) (numbers : ℕ → ℕ) (place : ℕ) (newer older : List (At JudgedCall)) → AreTaken numbers (newer ++ older) → AllAre Is numbers place newer older
     → AllAre (λ call h. IsTaken call h × Is call h) numbers place newer older
 and_taken Is numbers place [] older taken all = tt
 and_taken Is numbers place (e ∷ newer) older taken all =
-    (λ here. (subst (λ (p : ℕ). IsTaken e.call (judged_at numbers (newer ++ older) p)) here taken.0, all.0 here), and_taken Is numbers place newer older taken.1 all.1)
+    (λ here. (subst (λ (p : ℕ). IsTaken e.event (judged_at numbers (newer ++ older) p)) here taken.0, all.0 here), and_taken Is numbers place newer older taken.1 all.1)
 
 pub requests_are_sent : RequestsAreSent
 requests_are_sent numbers newer older place n x taken is firm =

@@ -6,29 +6,31 @@ use Rattle.wb_progress.specs.Turns.{Terms}
 use Rattle.wb_member.specs.Judged.{holds}
 use Rattle.wb_member.specs.Opened.{Opened}
 use Rattle.wb_keeping.specs.Performing.{Keeping}
-use Rattle.wb_laws_kept.specs.Sessions.{CallAt, kept_at}
+use Rattle.wb_laws_kept.specs.Sessions.{At, kept_at}
 use Rattle.wb_kept_progress.specs.Agreement.{LookAlike, NamesMeanOneAt}
-use Rattle.wb_kept_progress.specs.Since.{called_at as kept_called_at, hosts_of, since}
-use Rattle.wb_kept_progress.specs.Timed.{called_at as timed_called_at, lines_of}
+use Rattle.wb_kept_progress.specs.Since.{hosts_of, since}
+use Rattle.wb_kept_progress.specs.Timed.{time_of}
 use Rattle.wb_kept_progress.specs.Whole.{Sizes, there, whole_by}
 use Rattle.wb_kept_progress.proofs.Agreeing.{sessions_agree}
 use Rattle.wb_kept_progress.proofs.Since.{quiet_first, restarted_become_whole, restarted_become_whole_by_rounds, restarted_become_whole_in_crowds, restarted_fill_holes, since_is_same, since_is_timely}
-use Rattle.wb_judged_sessions.specs.Sessions.{JudgedCallAt, WasDrawn, judged_at, kept_calls}
+use Rattle.wb_judged_sessions.specs.Calls.{JudgedCall}
+use Rattle.wb_judged_sessions.specs.Sessions.{judged_at, kept_calls, WasDrawn}
 use Rattle.wb_judged_sessions.specs.Terms.{IsSession}
-use Rattle.wb_judged_sessions.specs.Timely.{IsTimely, JudgedAgree, JudgedBecomeWhole, JudgedBecomeWholeByRounds, JudgedBecomeWholeInCrowds, JudgedFillHoles, called_at}
+use Rattle.wb_judged_sessions.specs.Timely.{IsTimely, JudgedAgree, JudgedBecomeWhole, JudgedBecomeWholeByRounds, JudgedBecomeWholeInCrowds, JudgedFillHoles}
 use Rattle.wb_judged_sessions.proofs.InTime.{judged_is_timely}
 use Rattle.wb_judged_sessions.proofs.Kept.{calls_split, judged_is_kept}
 use Rattle.wb_judged_sessions.proofs.Timely.{called_kept, line_is}
 use Rattle.wb_judged_sessions.proofs.True.{held_was_drawn, names_mean_one}
+use Rattle.wb_laws_kept.specs.Calls.{Call}
 
-module _ (numbers : ℕ → ℕ) (calls newer later : List JudgedCallAt) (split : calls ≡ newer ++ later) where
+module _ (numbers : ℕ → ℕ) (calls newer later : List (At JudgedCall)) (split : calls ≡ newer ++ later) where
   pub kept_split : kept_calls numbers calls ≡ (calls_split numbers newer later).0 ++ kept_calls numbers later
   kept_split = ap (kept_calls numbers) split ∙ (calls_split numbers newer later).1
 
   pub holds_there : (i : ℕ) (n : NameValue) → holds (kept_at numbers (kept_calls numbers later) i).host n ≡ true → holds (judged_at numbers later i).kept.host n ≡ true
   holds_there i n held = subst (λ (k : Keeping). holds k.host n ≡ true) (sym (judged_is_kept numbers later i)) held
 
-  pub later_than_kept : (time : ℕ) → time < called_at later → time < kept_called_at (kept_calls numbers later)
+  pub later_than_kept : (time : ℕ) → time < time_of later → time < time_of (kept_calls numbers later)
   later_than_kept time late = let same = called_kept numbers later in omega (arith, late, same)
 
 pub judged_become_whole : JudgedBecomeWhole
@@ -66,32 +68,32 @@ whole_is_late terms sizes wait most time late =
     let le : terms.quiet ≤ whole_by terms sizes wait most = quiet_first terms.quiet terms.delivery _ wait _ sizes.since _ in
     omega (arith, late, le)
 
-module _ (numbers : ℕ → ℕ) (calls : List JudgedCallAt) where
-  abbrev kept : List CallAt
+module _ (numbers : ℕ → ℕ) (calls : List (At JudgedCall)) where
+  abbrev kept : List (At Call)
   kept = kept_calls numbers calls
 
   member_is : (i : ℕ) → (there (hosts_of numbers kept) (since numbers kept) i).host ≡ (judged_at numbers calls i).kept.host
   member_is i = ap (λ (k : Keeping). k.host) (since_is_same numbers kept i ∙ sym (judged_is_kept numbers calls i))
 
-  one_name : IsSession numbers calls → (i j : ℕ) → NamesMeanOneAt (hosts_of numbers kept) (lines_of (since numbers kept)) i j
+  one_name : IsSession numbers calls → (i j : ℕ) → NamesMeanOneAt (hosts_of numbers kept) (since numbers kept) i j
   one_name s i j d e held other same =
       let drawn : (k : ℕ) (x : DrawopValue) → Contains (there (hosts_of numbers kept) (since numbers kept) k).host.is.held x → WasDrawn numbers calls x =
       λ k x c. held_was_drawn numbers calls s k x (subst (λ (host : Opened). Contains host.is.held x) (member_is k) c) in
       names_mean_one numbers calls s d e (drawn i d held) (drawn j e other) same
 
-called_since : (numbers : ℕ → ℕ) (terms : Terms) (calls : List JudgedCallAt) → IsTimely numbers terms calls → terms.quiet < called_at calls
-    → timed_called_at (since numbers (kept_calls numbers calls)) ≡ called_at calls
+called_since : (numbers : ℕ → ℕ) (terms : Terms) (calls : List (At JudgedCall)) → IsTimely numbers terms calls → terms.quiet < time_of calls
+    → time_of (since numbers (kept_calls numbers calls)) ≡ time_of calls
 called_since numbers terms [] s late = refl
 called_since numbers terms (e ∷ older) s late =
     let t = (s.alone [] older e refl late).1 in
-    ap (λ (cs : List CallAt). timed_called_at (since numbers cs)) (line_is numbers e older t)
+    ap (λ (cs : List (At Call)). time_of (since numbers cs)) (line_is numbers e older t)
 
 pub judged_agree : JudgedAgree
 judged_agree numbers terms calls sizes wait most i j s session within soon waits lack short late live_i live_j =
     let kept = kept_calls numbers calls in
     let hosts = hosts_of numbers kept in
     let trace = since numbers kept in
-    let time = called_since numbers terms calls s (whole_is_late terms sizes wait most (called_at calls) late) in
+    let time = called_since numbers terms calls s (whole_is_late terms sizes wait most (time_of calls) late) in
     let alike = sessions_agree hosts terms trace [] trace sizes wait most i j (since_is_timely numbers terms kept (judged_is_timely numbers terms calls s)) within soon waits lack short refl
     (subst (λ (t : ℕ). whole_by terms sizes wait most < t) (sym time) late) live_i live_j (one_name numbers calls session i j) in
     subst (λ (host : Opened). LookAlike host.is.held (judged_at numbers calls j).kept.host.is.held) (member_is numbers calls i)

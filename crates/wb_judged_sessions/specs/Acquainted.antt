@@ -10,7 +10,8 @@ use Rattle.wb_judged_sessions.specs.Answering.{HasRoomFor, IsInTime, IsSentAfter
 use Rattle.wb_judged_sessions.specs.Examples.{at, numbers}
 use Rattle.wb_judged_sessions.specs.Knowing.{IsKnownSince}
 use Rattle.wb_judged_sessions.specs.Meeting.{answered, echo, one_knows, origin_of, reports}
-use Rattle.wb_judged_sessions.specs.Sessions.{JudgedCallAt, Takes, judged_at}
+use Rattle.wb_judged_sessions.specs.Calls.{JudgedCall, Takes}
+use Rattle.wb_judged_sessions.specs.Sessions.{At, judged_at}
 use Rattle.wb_judged_sessions.specs.Terms.{AreTaken}
 use Rattle.wb_judged_sessions.specs.Twins.{IsOfTwin, RemembersTwin}
 
@@ -36,16 +37,16 @@ abbrev pub twins : ℕ → ℕ
 twins i = 10
 
 -- The answer comes to the one, which answers in its turn, and that comes to the other.
-abbrev pub one_sees : List JudgedCallAt
+abbrev pub one_sees : List (At JudgedCall)
 one_sees = at 2000002 0 (Takes (CameFrom 2000002 (origin_of 1) (answer 10))) ∷ answered
 
-abbrev pub one_answers : List JudgedCallAt
+abbrev pub one_answers : List (At JudgedCall)
 one_answers = at 4000000 0 (Takes (Passed 4000000 Nothing)) ∷ one_sees
 
 abbrev pub second_answer : Datagram
 second_answer = reports 10 4000000 (echo 10 2000001 1999998 ∷ [])
 
-abbrev pub both_see : List JudgedCallAt
+abbrev pub both_see : List (At JudgedCall)
 both_see = at 4000001 1 (Takes (CameFrom 4000001 (origin_of 0) second_answer)) ∷ one_answers
 
 abbrev pub second_report : Heard

@@ -29,7 +29,8 @@ use Rattle.wb_judging.specs.Performing.{after_judged, events_of}
 use Rattle.wb_laws_kept.specs.Listening.{heard_of}
 use Rattle.wb_judged_sessions.specs.Knowing.{HasRoom, IsKnownSince, LeavesKnown}
 use Rattle.wb_judged_sessions.specs.Laws.{HasNotStarted}
-use Rattle.wb_judged_sessions.specs.Sessions.{JudgedCall, JudgedCallAt, Starts, Takes, Tunes, judged_at}
+use Rattle.wb_judged_sessions.specs.Calls.{JudgedCall, Starts, Takes, Tunes}
+use Rattle.wb_judged_sessions.specs.Sessions.{At, judged_at}
 use Rattle.wb_judged_sessions.specs.Terms.{AreTaken}
 
 -- ---- one member is answered
@@ -73,25 +74,25 @@ taken_by number (Takes line) h before = taken_in number (handed line h) h.kept b
 taken_by number (Tunes constants) h before = before
 
 -- the last report under a number that the member at a place took in since its program started
-abbrev pub last_taken : (ℕ → ℕ) → (number place : ℕ) → List JudgedCallAt → Option Heard
+abbrev pub last_taken : (ℕ → ℕ) → (number place : ℕ) → List (At JudgedCall) → Option Heard
 last_taken numbers number place [] = None
 last_taken numbers number place (e ∷ older) =
-    if nat_eq e.place place then taken_by number e.call (judged_at numbers older place) (last_taken numbers number place older)
+    if nat_eq e.place place then taken_by number e.event (judged_at numbers older place) (last_taken numbers number place older)
     else last_taken numbers number place older
 
 -- What a member echoes of another is the last report of it that it took in: the moment that this named, and how long ago it came.
 abbrev pub LastTakenIsEchoed : Type 0
 LastTakenIsEchoed =
-    (numbers : ℕ → ℕ) (older : List JudgedCallAt) (e : JudgedCallAt) (line : Call) (number sender moment : ℕ) (page : PageId) (marks : List MarkValue) (echoes : List Echo) (echo : Echo)
-    → AreTaken numbers (e ∷ older) → e.call ≡ Takes line → number ≢ numbers e.place
+    (numbers : ℕ → ℕ) (older : List (At JudgedCall)) (e : At JudgedCall) (line : Call) (number sender moment : ℕ) (page : PageId) (marks : List MarkValue) (echoes : List Echo) (echo : Echo)
+    → AreTaken numbers (e ∷ older) → e.event ≡ Takes line → number ≢ numbers e.place
     → Contains (sends_in (events_of line (judged_at numbers older e.place))) (Session sender moment page marks echoes) → echo_to number echoes ≡ Some echo
     → (heard : Heard) × (last_taken numbers number e.place (e ∷ older) ≡ Some heard) × (echo.sent ≡ heard.sent) × (echo.held ≡ moment - heard.at)
 
 -- If it remembers 32 senders at most, it echoes each that it took in a report of.
 abbrev pub FewAreEchoed : Type 0
 FewAreEchoed =
-    (numbers : ℕ → ℕ) (older : List JudgedCallAt) (e : JudgedCallAt) (line : Call) (number sender moment : ℕ) (page : PageId) (marks : List MarkValue) (echoes : List Echo) (heard : Heard)
-    → AreTaken numbers (e ∷ older) → e.call ≡ Takes line → number ≢ numbers e.place
+    (numbers : ℕ → ℕ) (older : List (At JudgedCall)) (e : At JudgedCall) (line : Call) (number sender moment : ℕ) (page : PageId) (marks : List MarkValue) (echoes : List Echo) (heard : Heard)
+    → AreTaken numbers (e ∷ older) → e.event ≡ Takes line → number ≢ numbers e.place
     → Contains (sends_in (events_of line (judged_at numbers older e.place))) (Session sender moment page marks echoes) → last_taken numbers number e.place (e ∷ older) ≡ Some heard
     → let host = (judged_at numbers (e ∷ older) e.place).kept.host in
     length (senders_of host.is.number host.is.calls) ≤ MOST_ECHOES → is_some (echo_to number echoes) ≡ true
@@ -99,14 +100,14 @@ FewAreEchoed =
 -- ---- two members
 
 -- One of some calls is a line with which the member at a place sends a datagram. What it has taken in by then is stated.
-pub record IsSentAfter (HasTaken : List JudgedCallAt → Type 0) (numbers : ℕ → ℕ) (place : ℕ) (calls : List JudgedCallAt) (v : Datagram) : Type 0 where
-  pub later : List JudgedCallAt
-  pub call : JudgedCallAt
-  pub earlier : List JudgedCallAt
+pub record IsSentAfter (HasTaken : List (At JudgedCall) → Type 0) (numbers : ℕ → ℕ) (place : ℕ) (calls : List (At JudgedCall)) (v : Datagram) : Type 0 where
+  pub later : List (At JudgedCall)
+  pub call : At JudgedCall
+  pub earlier : List (At JudgedCall)
   pub split : calls ≡ later ++ call ∷ earlier
   pub here : call.place ≡ place
   pub line : Call
-  pub takes : call.call ≡ Takes line
+  pub takes : call.event ≡ Takes line
   pub sends : Contains (sends_in (events_of line (judged_at numbers earlier place))) v
   pub after : HasTaken (call ∷ earlier)
 
@@ -120,21 +121,21 @@ pub record IsInTime (heard : Heard) (moment now : ℕ) (j : Judge) : Type 0 wher
 -- Our judge remembers the moment of a report for 256 seconds, or until our program starts anew.
 abbrev pub ReportsAreRemembered : Type 0
 ReportsAreRemembered =
-    (numbers : ℕ → ℕ) (newer older : List JudgedCallAt) (e : JudgedCallAt) (line : Call) (sender moment : ℕ) (page : PageId) (marks : List MarkValue) (echoes : List Echo)
-    → AreTaken numbers (newer ++ e ∷ older) → e.call ≡ Takes line → Contains (sends_in (events_of line (judged_at numbers older e.place))) (Session sender moment page marks echoes)
+    (numbers : ℕ → ℕ) (newer older : List (At JudgedCall)) (e : At JudgedCall) (line : Call) (sender moment : ℕ) (page : PageId) (marks : List MarkValue) (echoes : List Echo)
+    → AreTaken numbers (newer ++ e ∷ older) → e.event ≡ Takes line → Contains (sends_in (events_of line (judged_at numbers older e.place))) (Session sender moment page marks echoes)
     → HasNotStarted newer e.place → present (judged_at numbers (newer ++ e ∷ older) e.place).kept.host < moment + FRESH
     → Contains (judged_at numbers (newer ++ e ∷ older) e.place).judge.own moment
 
 -- Another member took in a report of ours, and its own report after that echoes us. That comes to us from an origin: so the other is known there since then.
 abbrev pub TheyComeToKnow : Type 0
 TheyComeToKnow =
-    (numbers : ℕ → ℕ) (calls : List JudgedCallAt) (e : JudgedCallAt) (other now moment : ℕ) (o : Origin) (page : PageId) (marks : List MarkValue) (echoes : List Echo) (heard : Heard)
+    (numbers : ℕ → ℕ) (calls : List (At JudgedCall)) (e : At JudgedCall) (other now moment : ℕ) (o : Origin) (page : PageId) (marks : List MarkValue) (echoes : List Echo) (heard : Heard)
     → let me = numbers e.place in
     let v = Session (numbers other) moment page marks echoes in
     let h = judged_at numbers calls e.place in
     AreTaken numbers calls → numbers other ≢ me
     → IsSentAfter (λ told. last_taken numbers me other told ≡ Some heard) numbers other calls v → is_some (echo_to me echoes) ≡ true
-    → e.call ≡ Takes (CameFrom now o v) → IsInTime heard moment now h.judge → HasRoomFor o (numbers other) now h.judge → IsFit o v (facts_of now v h.kept) h.judge
+    → e.event ≡ Takes (CameFrom now o v) → IsInTime heard moment now h.judge → HasRoomFor o (numbers other) now h.judge → IsFit o v (facts_of now v h.kept) h.judge
     → IsKnownSince o (numbers other) now (judged_at numbers (e ∷ calls) e.place).judge
 
 -- ---- from then on
@@ -159,11 +160,11 @@ heard_by_call o number (Takes line) h before = heard_by_line o number line h bef
 heard_by_call o number (Tunes constants) h before = before
 
 -- at a place, by newer calls over older ones, after which it was known since a moment
-abbrev pub heard_at : (ℕ → ℕ) → Origin → (number place since : ℕ) → (newer older : List JudgedCallAt) → ℕ
+abbrev pub heard_at : (ℕ → ℕ) → Origin → (number place since : ℕ) → (newer older : List (At JudgedCall)) → ℕ
 heard_at numbers o number place since [] older = since
 heard_at numbers o number place since (e ∷ newer) older =
     let before = heard_at numbers o number place since newer older in
-    if nat_eq e.place place then heard_by_call o number e.call (judged_at numbers (newer ++ older) place) before else before
+    if nat_eq e.place place then heard_by_call o number e.event (judged_at numbers (newer ++ older) place) before else before
 
 -- No program starts by a call, the judge has room, and the line leaves a number known that was heard at a moment.
 abbrev pub IsLeftKnown : Origin → (number at : ℕ) → JudgedCall → Judged → Type 0
@@ -172,15 +173,15 @@ IsLeftKnown o number at (Takes line) h = HasRoom h.judge × LeavesKnown o number
 IsLeftKnown o number at (Tunes constants) h = Unit {0}
 
 -- So it is with each of the newer calls at the place. What comes there comes within 192 seconds after the last report of that number, whoever sends it.
-abbrev pub AreLeftKnown : (ℕ → ℕ) → Origin → (number place since : ℕ) → (newer older : List JudgedCallAt) → Type 0
+abbrev pub AreLeftKnown : (ℕ → ℕ) → Origin → (number place since : ℕ) → (newer older : List (At JudgedCall)) → Type 0
 AreLeftKnown numbers o number place since [] older = Unit {0}
 AreLeftKnown numbers o number place since (e ∷ newer) older =
-    (e.place ≡ place → IsLeftKnown o number (heard_at numbers o number place since newer older) e.call (judged_at numbers (newer ++ older) place))
+    (e.place ≡ place → IsLeftKnown o number (heard_at numbers o number place since newer older) e.event (judged_at numbers (newer ++ older) place))
     × AreLeftKnown numbers o number place since newer older
 
 -- Then it is known since its last report there,
 abbrev pub KnownGoOn : Type 0
-KnownGoOn = (numbers : ℕ → ℕ) (o : Origin) (number place since : ℕ) (newer older : List JudgedCallAt) → number ≢ numbers place
+KnownGoOn = (numbers : ℕ → ℕ) (o : Origin) (number place since : ℕ) (newer older : List (At JudgedCall)) → number ≢ numbers place
     → IsKnownSince o number since (judged_at numbers older place).judge → AreLeftKnown numbers o number place since newer older
     → IsKnownSince o number (heard_at numbers o number place since newer older) (judged_at numbers (newer ++ older) place).judge
 

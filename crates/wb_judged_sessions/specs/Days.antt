@@ -12,7 +12,8 @@ use Rattle.wb_judging.specs.declared.call.Call.TheVariants.{Held, Passed}
 use Rattle.wb_judging.specs.Laws.{drawops_in, drawops_of}
 use Rattle.wb_judging.specs.News.{is_day}
 use Rattle.wb_judging.specs.declared.record.RecordLine.{RecordLine}
-use Rattle.wb_judged_sessions.specs.Sessions.{Holds, JudgedCall, JudgedCallAt, Starts, Takes, Tunes, after_call, drawn_at, drawn_by, judged_at}
+use Rattle.wb_judged_sessions.specs.Calls.{after_call, drawn_by, JudgedCall, Starts, Takes, Tunes}
+use Rattle.wb_judged_sessions.specs.Sessions.{At, drawn_at, Holds, judged_at}
 use Rattle.wb_judged_sessions.specs.Terms.{AreTaken, KeepFiles, file_at}
 
 -- ---- the time of day
@@ -45,10 +46,10 @@ abbrev pub latest_after : JudgedCall → List RecordLine → Judged → ℕ → 
 latest_after call file h latest = max (latest_before call file latest) (day_of (after_call call h))
 
 -- that of the member at a place
-abbrev pub latest_at : (ℕ → ℕ) → List JudgedCallAt → ℕ → ℕ
+abbrev pub latest_at : (ℕ → ℕ) → List (At JudgedCall) → ℕ → ℕ
 latest_at numbers [] i = 0
 latest_at numbers (e ∷ older) i =
-    if nat_eq e.place i then latest_after e.call (file_at numbers older i) (judged_at numbers older i) (latest_at numbers older i)
+    if nat_eq e.place i then latest_after e.event (file_at numbers older i) (judged_at numbers older i) (latest_at numbers older i)
     else latest_at numbers older i
 
 -- ---- how far it goes back
@@ -67,16 +68,16 @@ tells_day (Tunes constants) = false
 -- Whenever a driver does, the time of day is then less than a day, less 65,535 microseconds, before
 -- the latest one. Drawings of a page that come faster than the clock goes are a microsecond apart,
 -- and a board has no more cells.
-abbrev pub NeverADayBack : (ℕ → ℕ) → List JudgedCallAt → Type 0
+abbrev pub NeverADayBack : (ℕ → ℕ) → List (At JudgedCall) → Type 0
 NeverADayBack numbers [] = Unit {0}
 NeverADayBack numbers (e ∷ older) =
-    (tells_day e.call ≡ true
-    → latest_before e.call (file_at numbers older e.place) (latest_at numbers older e.place) + MAX_CELLS
-    < day_of (after_call e.call (judged_at numbers older e.place)) + AHEAD_KNOWN)
+    (tells_day e.event ≡ true
+    → latest_before e.event (file_at numbers older e.place) (latest_at numbers older e.place) + MAX_CELLS
+    < day_of (after_call e.event (judged_at numbers older e.place)) + AHEAD_KNOWN)
     × NeverADayBack numbers older
 
 -- No line is refused, each program starts with its file, and the time of day goes back by less.
-pub record KeepsDays (numbers : ℕ → ℕ) (calls : List JudgedCallAt) : Type 0 where
+pub record KeepsDays (numbers : ℕ → ℕ) (calls : List (At JudgedCall)) : Type 0 where
   pub taken : AreTaken numbers calls
   pub files : KeepFiles numbers calls
   pub back : NeverADayBack numbers calls
@@ -86,23 +87,23 @@ pub record KeepsDays (numbers : ℕ → ℕ) (calls : List JudgedCallAt) : Type 
 -- What a member holds is ahead of the latest time of day that it had by a day at most, and a
 -- microsecond for each drawop that it holds.
 abbrev pub HeldIsNear : Type 0
-HeldIsNear = (numbers : ℕ → ℕ) (calls : List JudgedCallAt) (i : ℕ) (d : DrawopValue)
+HeldIsNear = (numbers : ℕ → ℕ) (calls : List (At JudgedCall)) (i : ℕ) (d : DrawopValue)
     → KeepFiles numbers calls → Holds numbers calls i d
     → d.time ≤ latest_at numbers calls i + AHEAD_KNOWN + length (judged_at numbers calls i).kept.host.is.held
 
 -- What a user draws, by the last call of a session, has a greater time than each drawop that its
 -- page held there. Times of day are below 2^63, as `time_of_day` of a judge promises it.
 abbrev pub OursLieAbove : Type 0
-OursLieAbove = (numbers : ℕ → ℕ) (older : List JudgedCallAt) (e : JudgedCallAt) (ours d : DrawopValue)
-    → KeepsDays numbers (e ∷ older) → day_of (after_call e.call (judged_at numbers older e.place)) < 2 ^ 63
-    → Contains (drawn_by e.call (judged_at numbers older e.place)) ours
+OursLieAbove = (numbers : ℕ → ℕ) (older : List (At JudgedCall)) (e : At JudgedCall) (ours d : DrawopValue)
+    → KeepsDays numbers (e ∷ older) → day_of (after_call e.event (judged_at numbers older e.place)) < 2 ^ 63
+    → Contains (drawn_by e.event (judged_at numbers older e.place)) ours
     → Holds numbers older e.place d → d.name.page ≡ ours.name.page
     → d.time < ours.time
 
 -- So it has a greater time than each that this member drew there before, by all runs of its program.
 abbrev pub OursAreInOrder : Type 0
-OursAreInOrder = (numbers : ℕ → ℕ) (older : List JudgedCallAt) (e : JudgedCallAt) (ours d : DrawopValue)
-    → KeepsDays numbers (e ∷ older) → day_of (after_call e.call (judged_at numbers older e.place)) < 2 ^ 63
-    → Contains (drawn_by e.call (judged_at numbers older e.place)) ours
+OursAreInOrder = (numbers : ℕ → ℕ) (older : List (At JudgedCall)) (e : At JudgedCall) (ours d : DrawopValue)
+    → KeepsDays numbers (e ∷ older) → day_of (after_call e.event (judged_at numbers older e.place)) < 2 ^ 63
+    → Contains (drawn_by e.event (judged_at numbers older e.place)) ours
     → Contains (drawn_at numbers older e.place) d → d.name.page ≡ ours.name.page
     → d.time < ours.time

@@ -12,7 +12,8 @@ use Rattle.wb_judge.specs.declared.origin.Origin.{Origin}
 use Rattle.wb_judging.specs.declared.call.Call.TheVariants.{CameFrom, UserDrew}
 use Rattle.wb_judging.specs.declared.record.RecordLine.{RecordLine}
 use Rattle.wb_judging.specs.declared.record.RecordLine.TheVariants.{Strange, Tick}
-use Rattle.wb_judged_sessions.specs.Sessions.{JudgedCall, JudgedCallAt, Start, Starts, Takes, drawn_at, judged_at}
+use Rattle.wb_judged_sessions.specs.Calls.{JudgedCall, Start, Starts, Takes}
+use Rattle.wb_judged_sessions.specs.Sessions.{At, drawn_at, judged_at}
 use Rattle.wb_judged_sessions.specs.Terms.{IsSession, KeepFiles, file_at}
 
 abbrev pub page : PageId
@@ -41,8 +42,8 @@ start seed moment = record {
   strangers = None;
 }
 
-abbrev pub at : ℕ → ℕ → JudgedCall → JudgedCallAt
-at time place call = record { time = time; place = place; call = call }
+abbrev pub at : ℕ → ℕ → JudgedCall → At JudgedCall
+at time place call = record { time = time; place = place; event = call }
 
 abbrev pub somewhere : Origin
 somewhere = record { place = 77; owner = None }
@@ -52,23 +53,23 @@ abbrev pub drawing : DrawopValue
 drawing = record { name = name_of page 10 1; time = 7; op = deletes }
 
 -- the one starts, and then the other
-abbrev pub one_started : List JudgedCallAt
+abbrev pub one_started : List (At JudgedCall)
 one_started = at 1 0 (Starts (start 1 1) []) ∷ []
 
-abbrev pub both_started : List JudgedCallAt
+abbrev pub both_started : List (At JudgedCall)
 both_started = at 2 1 (Starts (start 2 1) []) ∷ one_started
 
-abbrev pub drawn : List JudgedCallAt
+abbrev pub drawn : List (At JudgedCall)
 drawn = at 3 0 (Takes (UserDrew 3 page deletes)) ∷ both_started
 
-abbrev pub heard : List JudgedCallAt
+abbrev pub heard : List (At JudgedCall)
 heard = at 4 1 (Takes (CameFrom 4 somewhere (Draw drawing))) ∷ drawn
 
 -- what it told its driver to record
 abbrev pub file : List RecordLine
 file = Tick 4 ∷ Strange drawing ∷ []
 
-abbrev pub again : List JudgedCallAt
+abbrev pub again : List (At JudgedCall)
 again = at 5 1 (Starts (start 3 7) file) ∷ heard
 
 -- It is such a session, of members that start with their files.

@@ -10,7 +10,8 @@ use Rattle.wb_judging.specs.declared.call.Call.TheVariants.{CameFrom, Passed, Us
 use Rattle.wb_judging.specs.declared.news.News.TheVariants.{Nothing}
 use Rattle.wb_judged_sessions.specs.Examples.{at, deletes, numbers, page}
 use Rattle.wb_judged_sessions.specs.Meeting.{both_know, origin_of}
-use Rattle.wb_judged_sessions.specs.Sessions.{JudgedCallAt, Takes, judged_at}
+use Rattle.wb_judged_sessions.specs.Calls.{JudgedCall, Takes}
+use Rattle.wb_judged_sessions.specs.Sessions.{At, judged_at}
 use Rattle.wb_judged_sessions.specs.Terms.{AreTaken}
 use Rattle.wb_judged_sessions.specs.Unhushed.{IsToRepair, IsToRequest, Sends, StaysFirm}
 
@@ -20,10 +21,10 @@ use Rattle.wb_judged_sessions.specs.Unhushed.{IsToRepair, IsToRequest, Sends, St
 abbrev pub drawing : DrawopValue
 drawing = record { name = name_of page 10 1; time = 4100004; op = deletes }
 
-abbrev pub requested : List JudgedCallAt
+abbrev pub requested : List (At JudgedCall)
 requested = at 4200000 0 (Takes (CameFrom 4200000 (origin_of 1) (Request 11 drawing.name))) ∷ at 4100000 0 (Takes (UserDrew 4100000 page deletes)) ∷ both_know
 
-abbrev pub copied : List JudgedCallAt
+abbrev pub copied : List (At JudgedCall)
 copied = at 4200001 0 (Takes (CameFrom 4200001 (origin_of 1) (Draw drawing))) ∷ []
 
 -- when it repairs
@@ -43,10 +44,10 @@ pub record RepairsAllTheSame : Type 0 where
 abbrev pub missing : NameValue
 missing = name_of page 11 1
 
-abbrev pub told : List JudgedCallAt
+abbrev pub told : List (At JudgedCall)
 told = at 4100000 0 (Takes (CameFrom 4100000 (origin_of 1) (Session 11 4100000 page (record { source = 11; high = 1 } ∷ []) []))) ∷ both_know
 
-abbrev pub put_off : List JudgedCallAt
+abbrev pub put_off : List (At JudgedCall)
 put_off = at 4100001 0 (Takes (CameFrom 4100001 (origin_of 1) (Request 12 missing))) ∷ []
 
 -- when it requests

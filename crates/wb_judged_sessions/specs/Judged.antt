@@ -8,11 +8,10 @@ use Rattle.wb_judging.specs.Judged.{Judged}
 use Rattle.wb_judging.specs.declared.call.Call.{Call}
 use Rattle.wb_judging.specs.declared.call.Call.TheVariants.{CameFrom, Held, Passed, UserDrew}
 use Rattle.wb_judging.specs.Laws.{expanded}
-use Rattle.wb_laws_kept.specs.Sessions.{Begins, Call as KeptCall, Handed}
 use Rattle.wb_laws_machines.specs.Machines.{Machine}
 use Rattle.wb_laws_machines.specs.Maps.{Map}
-use Rattle.wb_judged_sessions.specs.Sessions.{JudgedCall, Starts, Takes, Tunes, after_call, drawn_by, plain_line, sent_by, started, unstarted}
-use Rattle.wb_judged_sessions.specs.Terms.{IsTaken, brought_by}
+use Rattle.wb_judged_sessions.specs.Calls.{after_call, brought_by, drawn_by, IsTaken, JudgedCall, plain_line, sent_by, started, Starts, Takes, Tunes, unstarted}
+use Rattle.wb_laws_kept.specs.Calls.{Begins, Call as KeptCall, Handed}
 
 abbrev pub moment_of_line : Call → Option ℕ
 moment_of_line (CameFrom now o v) = Some now

@@ -1,6 +1,7 @@
+pub mod Calls
+pub mod Judged
 pub mod Sessions
 pub mod Terms
-pub mod Judged
 pub mod Laws
 pub mod Days
 pub mod Examples

@@ -13,7 +13,8 @@ use Rattle.wb_judging.specs.Performing.{events_of}
 use Rattle.wb_judged_sessions.specs.Examples.{at, numbers, start}
 use Rattle.wb_judged_sessions.specs.Known.{ComeInTime, KnowEachOther}
 use Rattle.wb_judged_sessions.specs.Knowing.{IsKnownSince}
-use Rattle.wb_judged_sessions.specs.Sessions.{JudgedCallAt, Starts, Takes, judged_at}
+use Rattle.wb_judged_sessions.specs.Calls.{JudgedCall, Starts, Takes}
+use Rattle.wb_judged_sessions.specs.Sessions.{At, judged_at}
 
 -- where the member at the place `i` speaks from
 abbrev pub origin_of : ℕ → Origin
@@ -30,16 +31,16 @@ abbrev pub echo : ℕ → ℕ → ℕ → Echo
 echo source sent held = record { source = source; sent = sent; held = held }
 
 -- Both start. The one reports after two seconds, and the other answers it.
-abbrev pub answered : List JudgedCallAt
+abbrev pub answered : List (At JudgedCall)
 answered =
     at 2000001 1 (Takes (CameFrom 2000001 (origin_of 0) (reports 10 2000000 [])))
     ∷ at 2000000 0 (Takes (Passed 2000000 Nothing)) ∷ at 1 1 (Starts (start 2 1) []) ∷ at 1 0 (Starts (start 1 1) []) ∷ []
 
 -- The answer comes. Two seconds later the one reports again, which answers the other.
-abbrev pub one_knows : List JudgedCallAt
+abbrev pub one_knows : List (At JudgedCall)
 one_knows = at 2000002 0 (Takes (CameFrom 2000002 (origin_of 1) (reports 11 2000001 (echo 10 2000000 0 ∷ [])))) ∷ answered
 
-abbrev pub both_know : List JudgedCallAt
+abbrev pub both_know : List (At JudgedCall)
 both_know =
     at 4000001 1 (Takes (CameFrom 4000001 (origin_of 0) (reports 10 4000000 (echo 11 2000001 1999998 ∷ []))))
     ∷ at 4000000 0 (Takes (Passed 4000000 Nothing)) ∷ one_knows
@@ -48,13 +49,13 @@ both_know =
 abbrev pub again : Datagram
 again = reports 11 5000000 (echo 10 4000000 999999 ∷ [])
 
-abbrev pub sent_again : List JudgedCallAt
+abbrev pub sent_again : List (At JudgedCall)
 sent_again = at 5000000 1 (Takes (Passed 5000000 Nothing)) ∷ both_know
 
-abbrev pub came_again : List JudgedCallAt
+abbrev pub came_again : List (At JudgedCall)
 came_again = at 5000001 0 (Takes (CameFrom 5000001 (origin_of 1) again)) ∷ sent_again
 
-abbrev pub told_again : List JudgedCallAt
+abbrev pub told_again : List (At JudgedCall)
 told_again = at 5000002 1 (Takes (Passed 5000002 Nothing)) ∷ came_again
 
 -- From when both know each other they keep to these terms: what is sent comes within a microsecond, and each is called within a second.

@@ -11,7 +11,8 @@ use Rattle.wb_judging.specs.declared.record.RecordLine.{RecordLine}
 use Rattle.wb_judging.specs.declared.record.RecordLine.TheVariants.{Said, Tick}
 use Rattle.wb_judged_sessions.specs.Days.{KeepsDays, NeverADayBack, day_of}
 use Rattle.wb_judged_sessions.specs.Examples.{at, deletes, numbers, page, start}
-use Rattle.wb_judged_sessions.specs.Sessions.{JudgedCallAt, Start, Starts, Takes, drawn_at, judged_at}
+use Rattle.wb_judged_sessions.specs.Calls.{JudgedCall, Start, Starts, Takes}
+use Rattle.wb_judged_sessions.specs.Sessions.{At, drawn_at, judged_at}
 use Rattle.wb_judged_sessions.specs.Terms.{AreTaken, KeepFiles}
 
 -- a start at which the time of day is this
@@ -25,14 +26,14 @@ late = 300000000000
 abbrev pub first : DrawopValue
 first = record { name = name_of page 10 1; time = 300000000002; op = deletes }
 
-abbrev pub once : List JudgedCallAt
+abbrev pub once : List (At JudgedCall)
 once = at 3 0 (Takes (UserDrew 3 page deletes)) ∷ (at 1 0 (Starts (start_on late 1 1) []) ∷ [])
 
 abbrev pub file : List RecordLine
 file = Tick 3 ∷ Said first ∷ []
 
 -- It starts again, at another time of day, and two microseconds later its user draws.
-abbrev pub twice : ℕ → List JudgedCallAt
+abbrev pub twice : ℕ → List (At JudgedCall)
 twice wall = at 9 0 (Takes (UserDrew 9 page deletes)) ∷ (at 7 0 (Starts (start_on wall 2 7) file) ∷ once)
 
 -- his second drawing, at some time
@@ -61,7 +62,7 @@ pub record IsSetBackTooFar : Type 0 where
 abbrev pub deletes_first : Op
 deletes_first = Aimed Delete (record { source = 10; seq = 1 })
 
-abbrev pub elsewhere : List JudgedCallAt
+abbrev pub elsewhere : List (At JudgedCall)
 elsewhere = at 9 1 (Takes (UserDrew 9 page deletes_first)) ∷ (at 7 1 (Starts (start_on 100000000000 2 7) file) ∷ once)
 
 -- Its drawing comes before the first, which it holds. So the runs that wrote its record count too.

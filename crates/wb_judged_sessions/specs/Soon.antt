@@ -12,25 +12,27 @@ use Rattle.wb_kept_progress.specs.Since.{hosts_of, since}
 use Rattle.wb_kept_progress.specs.Telling.{HaveSlices}
 use Rattle.wb_kept_progress.specs.Topped.{AreNumbered, AskAtMost, gained_by, topped_by, windows_from}
 use Rattle.wb_kept_progress.specs.Whole.{HolesAreHeld, IsHeldBySome, ReportWithin, WaitAtMost, request_span, turn_span}
-use Rattle.wb_judged_sessions.specs.Sessions.{JudgedCallAt, judged_at, kept_calls}
-use Rattle.wb_judged_sessions.specs.Timely.{IsTimely, called_at}
+use Rattle.wb_judged_sessions.specs.Calls.{JudgedCall}
+use Rattle.wb_judged_sessions.specs.Sessions.{At, judged_at, kept_calls}
+use Rattle.wb_judged_sessions.specs.Timely.{IsTimely}
+use Rattle.wb_kept_progress.specs.Timed.{time_of}
 
 abbrev pub JudgedBecomeWholeSoon : Type 0
-JudgedBecomeWholeSoon = (numbers : ℕ → ℕ) (terms : Terms) (calls newer later : List JudgedCallAt) (from wait slices pause asks windows most crowded i : ℕ) (n : NameValue) → IsTimely numbers terms calls
+JudgedBecomeWholeSoon = (numbers : ℕ → ℕ) (terms : Terms) (calls newer later : List (At JudgedCall)) (from wait slices pause asks windows most crowded i : ℕ) (n : NameValue) → IsTimely numbers terms calls
     → let hosts = hosts_of numbers (kept_calls numbers calls) in
     let trace = since numbers (kept_calls numbers calls) in
     WaitAtMost hosts terms trace wait → ReportWithin hosts terms trace from pause → HaveSlices hosts terms trace slices → AreNumbered hosts terms trace
     → AskAtMost hosts terms trace (windows_from terms from wait) asks → asks < MOST_TIMERS * windows
     → OneLacksAtMost hosts terms trace most → HolesAreHeld hosts terms trace → spent_in terms most (most + crowded) ≤ crowded * (MOST_TIMERS * COST)
-    → IsHeldBySome hosts terms trace n → calls ≡ newer ++ later → filled_by terms (topped_by terms from wait slices pause windows) wait (most + crowded) < called_at later → Contains terms.live i
+    → IsHeldBySome hosts terms trace n → calls ≡ newer ++ later → filled_by terms (topped_by terms from wait slices pause windows) wait (most + crowded) < time_of later → Contains terms.live i
     → holds (judged_at numbers later i).kept.host n ≡ true
 
 abbrev pub JudgedBecomeWholeAnyway : Type 0
-JudgedBecomeWholeAnyway = (numbers : ℕ → ℕ) (terms : Terms) (calls newer later : List JudgedCallAt) (from wait slices pause crowds most crowded i : ℕ) (n : NameValue) → IsTimely numbers terms calls
+JudgedBecomeWholeAnyway = (numbers : ℕ → ℕ) (terms : Terms) (calls newer later : List (At JudgedCall)) (from wait slices pause crowds most crowded i : ℕ) (n : NameValue) → IsTimely numbers terms calls
     → let hosts = hosts_of numbers (kept_calls numbers calls) in
     let trace = since numbers (kept_calls numbers calls) in
     WaitAtMost hosts terms trace wait → ReportWithin hosts terms trace from pause → HaveSlices hosts terms trace slices → AreNumbered hosts terms trace
     → OneLacksAtMost hosts terms trace most → HolesAreHeld hosts terms trace → PLACES * COST + turn_span terms + crowds * (2 * request_span terms) < crowds * (MOST_TIMERS * COST)
     → spent_in terms most (most + crowded) ≤ crowded * (MOST_TIMERS * COST)
-    → IsHeldBySome hosts terms trace n → calls ≡ newer ++ later → filled_by terms (gained_by terms from wait slices pause crowds most) wait (most + crowded) < called_at later → Contains terms.live i
+    → IsHeldBySome hosts terms trace n → calls ≡ newer ++ later → filled_by terms (gained_by terms from wait slices pause crowds most) wait (most + crowded) < time_of later → Contains terms.live i
     → holds (judged_at numbers later i).kept.host n ≡ true

@@ -1,87 +1,55 @@
 -- What is asked of a session of judged members, and of the records of their programs.
-use Rattle.std.specs.Prelude.{◌≡◌, ◌⊎◌, ℕ, ◌≤◌, true, List, [], ◌∷◌, ◌++◌, Contains, None, map, nat_eq, if◌then◌else◌}
+use Rattle.std.specs.Prelude.{◌≡◌, ◌⊎◌, ℕ, ◌≤◌, List, [], ◌∷◌, ◌++◌, Contains, nat_eq, if◌then◌else◌}
 use Rattle.wb_names.specs.Arrivals.{history_after}
 use Rattle.wb_names.specs.Values.{DrawopValue}
 use Rattle.wb_names.specs.declared.name.PageId.{PageId}
 use Rattle.wb_names.specs.declared.parts.Op.{Op}
-use Rattle.wb_recovery.specs.Timing.{are_constants}
-use Rattle.wb_member.specs.Opened.{last_number, present}
-use Rattle.wb_judging.specs.Handing.{handed}
+use Rattle.wb_member.specs.Opened.{last_number}
 use Rattle.wb_judging.specs.Judged.{Judged}
-use Rattle.wb_judging.specs.declared.call.Call.{Call}
-use Rattle.wb_judging.specs.declared.call.Call.TheVariants.{CameFrom, Held, Passed, UserDrew}
+use Rattle.wb_judging.specs.declared.call.Call.TheVariants.{UserDrew}
 use Rattle.wb_judging.specs.Laws.{drawops_of, record_of}
-use Rattle.wb_judging.specs.Performing.{after_judged}
-use Rattle.wb_judging.specs.Refusing.{draw_fault, held_fault}
 use Rattle.wb_judging.specs.declared.record.RecordLine.{RecordLine}
-use Rattle.wb_laws_kept.specs.Openings.{IsOpening}
-use Rattle.wb_laws_kept.specs.Kept.{gained_by_line}
 use Rattle.wb_laws_machines.specs.Honest.{AreApart}
-use Rattle.wb_judged_sessions.specs.Sessions.{JudgedCall, JudgedCallAt, Start, Starts, Takes, Tunes, WasHeld, drawn_at, judged_at, started}
+use Rattle.wb_laws_machines.specs.Machines as of
+use Rattle.wb_judged_sessions.specs.Calls.{brought_by, JudgedCall, Start, Starts, Takes, Tunes}
+use Rattle.wb_judged_sessions.specs.Judged.{judged}
+use Rattle.wb_judged_sessions.specs.Sessions.{At, drawn_at, judged_at, WasHeld}
 
--- ---- no line is refused
-
--- Time does not go back; the user draws if nobody has the number too and a cell is left; of the
--- record no line has a number of ours that we would never reach; and constants are in their ranges.
--- Nothing else is ever refused.
-abbrev pub IsLineTaken : Call → Judged → Type 0
-IsLineTaken (CameFrom now o v) h = present h.kept.host ≤ now
-IsLineTaken (Passed now news) h = present h.kept.host ≤ now
-IsLineTaken (UserDrew now page op) h = draw_fault now page op h ≡ None
-IsLineTaken (Held line) h = held_fault line h ≡ None
-
-abbrev pub AreLinesTaken : List Call → Judged → Type 0
-AreLinesTaken [] h = Unit {0}
-AreLinesTaken (line ∷ lines) h = IsLineTaken line h × AreLinesTaken lines (after_judged line h)
-
-abbrev pub IsTaken : JudgedCall → Judged → Type 0
-IsTaken (Starts start given) h =
-    IsOpening start.opening × AreLinesTaken (map Held given) (started h.kept.host.is.number start)
-IsTaken (Takes line) h = IsLineTaken line h
-IsTaken (Tunes constants) h = are_constants constants ≡ true
-
-abbrev pub AreTaken : (ℕ → ℕ) → List JudgedCallAt → Type 0
-AreTaken numbers [] = Unit {0}
-AreTaken numbers (e ∷ older) =
-    IsTaken e.call (judged_at numbers older e.place) × AreTaken numbers older
+-- each call is taken
+abbrev pub AreTaken : (ℕ → ℕ) → List (At JudgedCall) → Type 0
+AreTaken = of.AreTaken judged
 
 -- ---- what comes was held
-
--- the drawops that a call hands in: of the record, or one that came and that the judge lets in
-abbrev pub brought_by : JudgedCall → Judged → List DrawopValue
-brought_by (Starts start given) h = drawops_of given
-brought_by (Takes line) h = gained_by_line (handed line h)
-brought_by (Tunes constants) h = []
 
 -- Some member held each of them before: members send, hand on and record only what they hold. What
 -- the judge drops may be anything, and so may reports, requests and questions, from whatever origin.
 -- Under a key nobody else can speak; without one it is asked of people that they forge no drawops.
-abbrev pub DrawopsWereHeld : (ℕ → ℕ) → List JudgedCallAt → Type 0
+abbrev pub DrawopsWereHeld : (ℕ → ℕ) → List (At JudgedCall) → Type 0
 DrawopsWereHeld numbers [] = Unit {0}
 DrawopsWereHeld numbers (e ∷ older) =
-    ((d : DrawopValue) → Contains (brought_by e.call (judged_at numbers older e.place)) d → WasHeld numbers older d)
+    ((d : DrawopValue) → Contains (brought_by e.event (judged_at numbers older e.place)) d → WasHeld numbers older d)
     × DrawopsWereHeld numbers older
 
 -- ---- members know their own numbers
 
 -- The last number of its own that the member at a place knows on a page, by what it holds or heard,
 -- is as great as each that it drew there, by all runs of its program.
-abbrev pub KnowsItsOwn : (ℕ → ℕ) → List JudgedCallAt → ℕ → PageId → Type 0
+abbrev pub KnowsItsOwn : (ℕ → ℕ) → List (At JudgedCall) → ℕ → PageId → Type 0
 KnowsItsOwn numbers older i page =
     (d : DrawopValue) → Contains (drawn_at numbers older i) d → d.name.page ≡ page
     → d.name.seq ≤ last_number page (judged_at numbers older i).kept.host
 
 -- So it is whenever its user draws.
-abbrev pub KnowTheirOwn : (ℕ → ℕ) → List JudgedCallAt → Type 0
+abbrev pub KnowTheirOwn : (ℕ → ℕ) → List (At JudgedCall) → Type 0
 KnowTheirOwn numbers [] = Unit {0}
 KnowTheirOwn numbers (e ∷ older) =
-    ((now : ℕ) (page : PageId) (op : Op) → e.call ≡ Takes (UserDrew now page op)
+    ((now : ℕ) (page : PageId) (op : Op) → e.event ≡ Takes (UserDrew now page op)
     → KnowsItsOwn numbers older e.place page)
     × KnowTheirOwn numbers older
 
 -- No two places have one number, no line is refused, each drawop that is let in was held, and
 -- members know their own numbers.
-pub record IsSession (numbers : ℕ → ℕ) (calls : List JudgedCallAt) : Type 0 where
+pub record IsSession (numbers : ℕ → ℕ) (calls : List (At JudgedCall)) : Type 0 where
   pub apart : AreApart numbers
   pub taken : AreTaken numbers calls
   pub held : DrawopsWereHeld numbers calls
@@ -91,16 +59,16 @@ pub record IsSession (numbers : ℕ → ℕ) (calls : List JudgedCallAt) : Type 
 
 -- A board of so many cells that takes the drawops of the record has all that the member at the
 -- place drew. What others drew may be missing.
-abbrev pub IsWholeRecord : (ℕ → ℕ) → List JudgedCallAt → ℕ → Start → List RecordLine → Type 0
+abbrev pub IsWholeRecord : (ℕ → ℕ) → List (At JudgedCall) → ℕ → Start → List RecordLine → Type 0
 IsWholeRecord numbers older i start given =
     (d : DrawopValue) → Contains (drawn_at numbers older i) d
     → Contains (history_after start.opening.cells [] (drawops_of given)) d
 
 -- Each program starts with such a record.
-abbrev pub RecordsAreWhole : (ℕ → ℕ) → List JudgedCallAt → Type 0
+abbrev pub RecordsAreWhole : (ℕ → ℕ) → List (At JudgedCall) → Type 0
 RecordsAreWhole numbers [] = Unit {0}
 RecordsAreWhole numbers (e ∷ older) =
-    ((start : Start) (given : List RecordLine) → e.call ≡ Starts start given
+    ((start : Start) (given : List RecordLine) → e.event ≡ Starts start given
     → IsWholeRecord numbers older e.place start given)
     × RecordsAreWhole numbers older
 
@@ -111,15 +79,15 @@ file_after (Starts start given) h file = given
 file_after (Takes line) h file = file ++ record_of line h
 file_after (Tunes constants) h file = file
 
-abbrev pub file_at : (ℕ → ℕ) → List JudgedCallAt → ℕ → List RecordLine
+abbrev pub file_at : (ℕ → ℕ) → List (At JudgedCall) → ℕ → List RecordLine
 file_at numbers [] i = []
 file_at numbers (e ∷ older) i =
-    if nat_eq e.place i then file_after e.call (judged_at numbers older i) (file_at numbers older i)
+    if nat_eq e.place i then file_after e.event (judged_at numbers older i) (file_at numbers older i)
     else file_at numbers older i
 
 -- A program is given the drawops of its file, in their order, and has as many cells as before. If
 -- nothing is in its file, it may be given anything, as the record of another number.
-abbrev pub IsItsFile : (ℕ → ℕ) → List JudgedCallAt → ℕ → Start → List RecordLine → Type 0
+abbrev pub IsItsFile : (ℕ → ℕ) → List (At JudgedCall) → ℕ → Start → List RecordLine → Type 0
 IsItsFile numbers older i start given =
     (file_at numbers older i ≡ [])
     ⊎ ((drawops_of given ≡ drawops_of (file_at numbers older i))
@@ -127,9 +95,9 @@ IsItsFile numbers older i start given =
 
 -- Each program starts so. live/board.py writes what is to be recorded before it sends what follows
 -- in the block, and gives a new host what was written (tests/live/test_keeping.py).
-abbrev pub KeepFiles : (ℕ → ℕ) → List JudgedCallAt → Type 0
+abbrev pub KeepFiles : (ℕ → ℕ) → List (At JudgedCall) → Type 0
 KeepFiles numbers [] = Unit {0}
 KeepFiles numbers (e ∷ older) =
-    ((start : Start) (given : List RecordLine) → e.call ≡ Starts start given
+    ((start : Start) (given : List RecordLine) → e.event ≡ Starts start given
     → IsItsFile numbers older e.place start given)
     × KeepFiles numbers older

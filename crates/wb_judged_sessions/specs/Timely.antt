@@ -29,19 +29,12 @@ use Rattle.wb_kept_progress.specs.Filling.{OnlyHolesAreLacked, filled_by}
 use Rattle.wb_kept_progress.specs.Rounds.{OneLacksAtMost, PlacesAreFilled, rounds_by}
 use Rattle.wb_kept_progress.specs.Since.{DelaysAreShortSince, GoByShortSince, IsTimelyWithStarts, hosts_of, since}
 use Rattle.wb_kept_progress.specs.Whole.{AreSoon, AreWithin, HolesAreHeld, IsHeldBySome, LackAtMost, NewAreKept, ReportWithin, Sizes, WaitAtMost, minute, request_span, whole_by}
-use Rattle.wb_judged_sessions.specs.Sessions.{JudgedCall, JudgedCallAt, Starts, Takes, Tunes, judged_at, kept_calls}
+use Rattle.wb_judged_sessions.specs.Calls.{JudgedCall, Starts, Takes, Tunes}
+use Rattle.wb_judged_sessions.specs.Sessions.{At, judged_at, kept_calls}
 use Rattle.wb_judged_sessions.specs.Terms.{AreTaken, IsSession}
+use Rattle.wb_kept_progress.specs.Timed.{AreInOrder, time_of}
 
 -- ---- what they keep to
-
--- the time of the newest call, at first 0; times do not go back
-abbrev pub called_at : List JudgedCallAt → ℕ
-called_at [] = 0
-called_at (e ∷ older) = e.time
-
-abbrev pub AreInOrder : List JudgedCallAt → Type 0
-AreInOrder [] = Unit {0}
-AreInOrder (e ∷ older) = (called_at older ≤ e.time) × AreInOrder older
 
 -- The last start was at `quiet` or before, at a moment that the clock may tell then, and with such constants. Each line since then says a moment of
 -- its time, and constants that are set have no longer waits than the terms say.
@@ -58,124 +51,124 @@ IsNoStart (Starts start given) = ⊥
 IsNoStart (Takes line) = Unit {0}
 IsNoStart (Tunes constants) = Unit {0}
 
-abbrev pub AreFittingSince : Terms → (ℕ → ℕ) → ℕ → List JudgedCallAt → Type 0
+abbrev pub AreFittingSince : Terms → (ℕ → ℕ) → ℕ → List (At JudgedCall) → Type 0
 AreFittingSince terms numbers place [] = ⊥
 AreFittingSince terms numbers place (e ∷ older) =
-    IsFittingSince terms (numbers place) place (nat_eq e.place place) e.time e.call (judged_at numbers older e.place) (AreFittingSince terms numbers place older)
+    IsFittingSince terms (numbers place) place (nat_eq e.place place) e.time e.event (judged_at numbers older e.place) (AreFittingSince terms numbers place older)
 
 -- A datagram comes to a place by a time, as a member's: its sender is known there at the origin from which it comes, and speaks from there, and it is
 -- fit, as a judge has it. A drawop is so if it is no more than a day ahead of the time of day there, and there is a cell for it besides a thirty-second.
-pub record Arrives (numbers : ℕ → ℕ) (newer base : List JudgedCallAt) (j by : ℕ) (v : Datagram) : Type 0 where
-  pub later : List JudgedCallAt
-  pub call : JudgedCallAt
-  pub between : List JudgedCallAt
+pub record Arrives (numbers : ℕ → ℕ) (newer base : List (At JudgedCall)) (j by : ℕ) (v : Datagram) : Type 0 where
+  pub later : List (At JudgedCall)
+  pub call : At JudgedCall
+  pub between : List (At JudgedCall)
   pub split : newer ≡ later ++ call ∷ between
   pub place : call.place ≡ j
   pub soon : call.time ≤ by
   pub now : ℕ
   pub origin : Origin
-  pub is : call.call ≡ Takes (CameFrom now origin v)
+  pub is : call.event ≡ Takes (CameFrom now origin v)
   pub member : IsOfMember now origin v (judged_at numbers (between ++ base) j)
 
 -- one of these lines sent a datagram, so shortly before a time
-pub record WasSentBy (numbers : ℕ → ℕ) (older : List JudgedCallAt) (time within : ℕ) (v : Datagram) : Type 0 where
-  pub newer : List JudgedCallAt
-  pub e : JudgedCallAt
-  pub before : List JudgedCallAt
+pub record WasSentBy (numbers : ℕ → ℕ) (older : List (At JudgedCall)) (time within : ℕ) (v : Datagram) : Type 0 where
+  pub newer : List (At JudgedCall)
+  pub e : At JudgedCall
+  pub before : List (At JudgedCall)
   pub split : older ≡ newer ++ e ∷ before
   pub soon : time ≤ e.time + within
   pub line : Call
-  pub call : e.call ≡ Takes line
+  pub call : e.event ≡ Takes line
   pub sent : Contains (sends_in (events_of line (judged_at numbers before e.place))) v
 
 -- Before `quiet` programs start and end as they like, and the network does what it likes. From then on live members alone are called, and in time, each
 -- of their boards has a free cell, nobody draws, and no line of a record is handed in. What the one at a place sends comes to each other one in time, in a
 -- way that is stated, among newer calls over the older ones. What a judge lets in once all that was on its way has arrived was sent shortly before; what it
 -- drops may be anything. Of delays something is asked that is stated.
-pub record IsTimelyBut (Arrived : (newer base : List JudgedCallAt) (i j by : ℕ) → Datagram → Type 0) (Delays : Type 0) (numbers : ℕ → ℕ) (terms : Terms) (calls : List JudgedCallAt) : Type 0 where
+pub record IsTimelyBut (Arrived : (newer base : List (At JudgedCall)) (i j by : ℕ) → Datagram → Type 0) (Delays : Type 0) (numbers : ℕ → ℕ) (terms : Terms) (calls : List (At JudgedCall)) : Type 0 where
   pub apart : AreApart numbers
   pub taken : AreTaken numbers calls
   pub order : AreInOrder calls
   pub covered : terms.drift ≤ terms.late
   pub delays : Delays
   pub fitting : (i : ℕ) → Contains terms.live i → AreFittingSince terms numbers i calls
-  pub alone : (newer older : List JudgedCallAt) (e : JudgedCallAt) → calls ≡ newer ++ e ∷ older → terms.quiet < e.time → Contains terms.live e.place × IsNoStart e.call
-  pub drawn : (newer older : List JudgedCallAt) (e : JudgedCallAt) (now : ℕ) (page : PageId) (op : Op) → calls ≡ newer ++ e ∷ older → terms.quiet < e.time → e.call ≢ Takes (UserDrew now page op)
-  pub recalled : (newer older : List JudgedCallAt) (e : JudgedCallAt) (line : RecordLine) → calls ≡ newer ++ e ∷ older → terms.quiet < e.time → e.call ≢ Takes (Held line)
-  pub soon : (newer older : List JudgedCallAt) (e : JudgedCallAt) (i : ℕ) → calls ≡ newer ++ e ∷ older → Contains terms.live i → terms.quiet < e.time
+  pub alone : (newer older : List (At JudgedCall)) (e : At JudgedCall) → calls ≡ newer ++ e ∷ older → terms.quiet < e.time → Contains terms.live e.place × IsNoStart e.event
+  pub drawn : (newer older : List (At JudgedCall)) (e : At JudgedCall) (now : ℕ) (page : PageId) (op : Op) → calls ≡ newer ++ e ∷ older → terms.quiet < e.time → e.event ≢ Takes (UserDrew now page op)
+  pub recalled : (newer older : List (At JudgedCall)) (e : At JudgedCall) (line : RecordLine) → calls ≡ newer ++ e ∷ older → terms.quiet < e.time → e.event ≢ Takes (Held line)
+  pub soon : (newer older : List (At JudgedCall)) (e : At JudgedCall) (i : ℕ) → calls ≡ newer ++ e ∷ older → Contains terms.live i → terms.quiet < e.time
       → e.time ≤ due (judged_at numbers older i).kept + (terms.lag i + terms.late)
-  pub room : (newer older : List JudgedCallAt) (i : ℕ) → calls ≡ newer ++ older → Contains terms.live i → terms.quiet < called_at older → is_full (judged_at numbers older i).kept.host ≡ false
-  pub delivered : (newer older : List JudgedCallAt) (e : JudgedCallAt) (line : Call) (j : ℕ) (v : Datagram) → calls ≡ newer ++ e ∷ older → e.call ≡ Takes line → Contains terms.live j
+  pub room : (newer older : List (At JudgedCall)) (i : ℕ) → calls ≡ newer ++ older → Contains terms.live i → terms.quiet < time_of older → is_full (judged_at numbers older i).kept.host ≡ false
+  pub delivered : (newer older : List (At JudgedCall)) (e : At JudgedCall) (line : Call) (j : ℕ) (v : Datagram) → calls ≡ newer ++ e ∷ older → e.event ≡ Takes line → Contains terms.live j
       → e.place ≢ j → terms.quiet < e.time
-      → Contains (sends_in (events_of line (judged_at numbers older e.place))) v → e.time + terms.delivery < called_at calls → Arrived newer (e ∷ older) e.place j (e.time + terms.delivery) v
-  pub fresh : (newer older : List JudgedCallAt) (e : JudgedCallAt) (now : ℕ) (o : Origin) (v : Datagram) → calls ≡ newer ++ e ∷ older → settled_by terms < e.time → e.call ≡ Takes (CameFrom now o v)
+      → Contains (sends_in (events_of line (judged_at numbers older e.place))) v → e.time + terms.delivery < time_of calls → Arrived newer (e ∷ older) e.place j (e.time + terms.delivery) v
+  pub fresh : (newer older : List (At JudgedCall)) (e : At JudgedCall) (now : ℕ) (o : Origin) (v : Datagram) → calls ≡ newer ++ e ∷ older → settled_by terms < e.time → e.event ≡ Takes (CameFrom now o v)
       → handed (CameFrom now o v) (judged_at numbers older e.place) ≡ Came now v → WasSentBy numbers older e.time terms.delivery v
 
 -- It is what a session of self-managing members is asked.
-abbrev pub IsTimelyBy : ((newer base : List JudgedCallAt) (i j by : ℕ) → Datagram → Type 0) → (ℕ → ℕ) → Terms → List JudgedCallAt → Type 0
+abbrev pub IsTimelyBy : ((newer base : List (At JudgedCall)) (i j by : ℕ) → Datagram → Type 0) → (ℕ → ℕ) → Terms → List (At JudgedCall) → Type 0
 IsTimelyBy Arrived numbers terms calls = IsTimelyBut Arrived ((MOST_DELAY ≤ terms.far) ⊎ DelaysAreShortSince numbers terms (kept_calls numbers calls)) numbers terms calls
 
 -- It comes as a member's.
-abbrev pub IsTimely : (ℕ → ℕ) → Terms → List JudgedCallAt → Type 0
+abbrev pub IsTimely : (ℕ → ℕ) → Terms → List (At JudgedCall) → Type 0
 IsTimely numbers terms calls = IsTimelyBy (λ newer base i j by v. Arrives numbers newer base j by v) numbers terms calls
 
 -- ---- laws
 
 -- As a session of self-managing members it keeps to times.
 abbrev pub JudgedIsTimely : Type 0
-JudgedIsTimely = (numbers : ℕ → ℕ) (terms : Terms) (calls : List JudgedCallAt) → IsTimely numbers terms calls → IsTimelyWithStarts numbers terms (kept_calls numbers calls)
+JudgedIsTimely = (numbers : ℕ → ℕ) (terms : Terms) (calls : List (At JudgedCall)) → IsTimely numbers terms calls → IsTimelyWithStarts numbers terms (kept_calls numbers calls)
 
 -- Of delays it is enough that none is above `far` since the last starts.
 abbrev pub JudgedAlwaysShort : Type 0
-JudgedAlwaysShort = (numbers : ℕ → ℕ) (terms : Terms) (calls : List JudgedCallAt)
+JudgedAlwaysShort = (numbers : ℕ → ℕ) (terms : Terms) (calls : List (At JudgedCall))
     → IsTimelyBut (λ newer base i j by v. Arrives numbers newer base j by v) (GoByShortSince numbers terms (kept_calls numbers calls)) numbers terms calls → IsTimely numbers terms calls
 
 -- It becomes whole, whoever started anew before: after a stated time each live member holds what one of them held. The sizes are those of the boards
 -- and policies of the members, since the last start of each.
 abbrev pub JudgedBecomeWhole : Type 0
-JudgedBecomeWhole = (numbers : ℕ → ℕ) (terms : Terms) (calls newer later : List JudgedCallAt) (sizes : Sizes) (wait most i : ℕ) (n : NameValue) → IsTimely numbers terms calls
+JudgedBecomeWhole = (numbers : ℕ → ℕ) (terms : Terms) (calls newer later : List (At JudgedCall)) (sizes : Sizes) (wait most i : ℕ) (n : NameValue) → IsTimely numbers terms calls
     → let hosts = hosts_of numbers (kept_calls numbers calls) in
     let trace = since numbers (kept_calls numbers calls) in
     AreWithin hosts terms trace sizes → AreSoon hosts terms trace sizes most → WaitAtMost hosts terms trace wait → LackAtMost hosts terms trace most
     → request_span terms + terms.drift ≤ minute → IsHeldBySome hosts terms trace n
-    → calls ≡ newer ++ later → whole_by terms sizes wait most < called_at later → Contains terms.live i → holds (judged_at numbers later i).kept.host n ≡ true
+    → calls ≡ newer ++ later → whole_by terms sizes wait most < time_of later → Contains terms.live i → holds (judged_at numbers later i).kept.host n ≡ true
 
 -- So it does by rounds.
 abbrev pub JudgedBecomeWholeByRounds : Type 0
-JudgedBecomeWholeByRounds = (numbers : ℕ → ℕ) (terms : Terms) (calls newer later : List JudgedCallAt) (from pause wait most places rounds i : ℕ) (n : NameValue) → IsTimely numbers terms calls
+JudgedBecomeWholeByRounds = (numbers : ℕ → ℕ) (terms : Terms) (calls newer later : List (At JudgedCall)) (from pause wait most places rounds i : ℕ) (n : NameValue) → IsTimely numbers terms calls
     → let hosts = hosts_of numbers (kept_calls numbers calls) in
     let trace = since numbers (kept_calls numbers calls) in
     ReportWithin hosts terms trace from pause → WaitAtMost hosts terms trace wait → OneLacksAtMost hosts terms trace most → NewAreKept hosts terms trace from
     → PlacesAreFilled hosts terms trace from places → most ≤ rounds * places
-    → IsHeldBySome hosts terms trace n → calls ≡ newer ++ later → rounds_by terms from pause wait rounds < called_at later → Contains terms.live i
+    → IsHeldBySome hosts terms trace n → calls ≡ newer ++ later → rounds_by terms from pause wait rounds < time_of later → Contains terms.live i
     → holds (judged_at numbers later i).kept.host n ≡ true
 
 -- And though names are given up in crowds.
 abbrev pub JudgedBecomeWholeInCrowds : Type 0
-JudgedBecomeWholeInCrowds = (numbers : ℕ → ℕ) (terms : Terms) (calls newer later : List JudgedCallAt) (from wait most places bringing crowded i : ℕ) (n : NameValue) → IsTimely numbers terms calls
+JudgedBecomeWholeInCrowds = (numbers : ℕ → ℕ) (terms : Terms) (calls newer later : List (At JudgedCall)) (from wait most places bringing crowded i : ℕ) (n : NameValue) → IsTimely numbers terms calls
     → let hosts = hosts_of numbers (kept_calls numbers calls) in
     let trace = since numbers (kept_calls numbers calls) in
     WaitAtMost hosts terms trace wait → OneLacksAtMost hosts terms trace most → PlacesAreFilled hosts terms trace from places
     → most ≤ bringing * places → spent_in terms most (bringing + crowded) ≤ crowded * (MOST_TIMERS * COST)
-    → IsHeldBySome hosts terms trace n → calls ≡ newer ++ later → crowded_by terms from wait (bringing + crowded) < called_at later → Contains terms.live i
+    → IsHeldBySome hosts terms trace n → calls ≡ newer ++ later → crowded_by terms from wait (bringing + crowded) < time_of later → Contains terms.live i
     → holds (judged_at numbers later i).kept.host n ≡ true
 
 -- And where members lack nothing but numbers below one that they hold.
 abbrev pub JudgedFillHoles : Type 0
-JudgedFillHoles = (numbers : ℕ → ℕ) (terms : Terms) (calls newer later : List JudgedCallAt) (from wait most crowded i : ℕ) (n : NameValue) → IsTimely numbers terms calls
+JudgedFillHoles = (numbers : ℕ → ℕ) (terms : Terms) (calls newer later : List (At JudgedCall)) (from wait most crowded i : ℕ) (n : NameValue) → IsTimely numbers terms calls
     → let hosts = hosts_of numbers (kept_calls numbers calls) in
     let trace = since numbers (kept_calls numbers calls) in
     WaitAtMost hosts terms trace wait → OneLacksAtMost hosts terms trace most → HolesAreHeld hosts terms trace → OnlyHolesAreLacked hosts terms trace from
     → spent_in terms most (most + crowded) ≤ crowded * (MOST_TIMERS * COST)
-    → IsHeldBySome hosts terms trace n → calls ≡ newer ++ later → filled_by terms from wait (most + crowded) < called_at later → Contains terms.live i
+    → IsHeldBySome hosts terms trace n → calls ≡ newer ++ later → filled_by terms from wait (most + crowded) < time_of later → Contains terms.live i
     → holds (judged_at numbers later i).kept.host n ≡ true
 
 -- After that time the boards of any two live members look alike, at the end of the session, if it is one of those in which each drawop that is let in
 -- was held before.
 abbrev pub JudgedAgree : Type 0
-JudgedAgree = (numbers : ℕ → ℕ) (terms : Terms) (calls : List JudgedCallAt) (sizes : Sizes) (wait most i j : ℕ) → IsTimely numbers terms calls → IsSession numbers calls
+JudgedAgree = (numbers : ℕ → ℕ) (terms : Terms) (calls : List (At JudgedCall)) (sizes : Sizes) (wait most i j : ℕ) → IsTimely numbers terms calls → IsSession numbers calls
     → let hosts = hosts_of numbers (kept_calls numbers calls) in
     let trace = since numbers (kept_calls numbers calls) in
     AreWithin hosts terms trace sizes → AreSoon hosts terms trace sizes most → WaitAtMost hosts terms trace wait → LackAtMost hosts terms trace most → request_span terms + terms.drift ≤ minute
-    → whole_by terms sizes wait most < called_at calls → Contains terms.live i → Contains terms.live j
+    → whole_by terms sizes wait most < time_of calls → Contains terms.live i → Contains terms.live j
     → LookAlike (judged_at numbers calls i).kept.host.is.held (judged_at numbers calls j).kept.host.is.held

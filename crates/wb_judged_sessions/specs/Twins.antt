@@ -17,7 +17,8 @@ use Rattle.wb_judging.specs.declared.call.Call.{Call}
 use Rattle.wb_judging.specs.declared.call.Call.TheVariants.{CameFrom}
 use Rattle.wb_judging.specs.Performing.{after_judged}
 use Rattle.wb_judged_sessions.specs.Answering.{IsInTime, IsSentAfter}
-use Rattle.wb_judged_sessions.specs.Sessions.{JudgedCallAt, Takes, judged_at}
+use Rattle.wb_judged_sessions.specs.Calls.{JudgedCall, Takes}
+use Rattle.wb_judged_sessions.specs.Sessions.{At, judged_at}
 use Rattle.wb_judged_sessions.specs.Terms.{AreTaken}
 
 -- ---- one member
@@ -46,16 +47,16 @@ TwinsStay = (line : Call) (h : Judged) → h.judge.has_twin ≡ true → (after_
 -- ---- two members
 
 -- The judge of the member at a place remembers a report under its number that is not its own, and it is the turn of that one at a moment.
-abbrev pub RemembersTwin : (ℕ → ℕ) → (place moment : ℕ) → Heard → List JudgedCallAt → Type 0
+abbrev pub RemembersTwin : (ℕ → ℕ) → (place moment : ℕ) → Heard → List (At JudgedCall) → Type 0
 RemembersTwin numbers place moment heard calls = (o : Origin) × (alien_at moment (judged_at numbers calls place).judge.aliens ≡ Some (record { origin = o; sent = heard.sent; at = heard.at }))
 
 -- Another member of our number remembers a report of ours, and reports within 256 seconds, at its turn. That comes to us, so we see that we have a twin.
 abbrev pub TwinsSee : Type 0
 TwinsSee =
-    (numbers : ℕ → ℕ) (calls : List JudgedCallAt) (e : JudgedCallAt) (other now moment : ℕ) (o : Origin) (page : PageId) (marks : List MarkValue) (echoes : List Echo) (heard : Heard)
+    (numbers : ℕ → ℕ) (calls : List (At JudgedCall)) (e : At JudgedCall) (other now moment : ℕ) (o : Origin) (page : PageId) (marks : List MarkValue) (echoes : List Echo) (heard : Heard)
     → let me = numbers e.place in
     let v = Session me moment page marks echoes in
     let h = judged_at numbers calls e.place in
     AreTaken numbers calls → numbers other ≡ me → IsSentAfter (RemembersTwin numbers other moment heard) numbers other calls v → moment ≤ heard.at + FRESH
-    → e.call ≡ Takes (CameFrom now o v) → IsInTime heard moment now h.judge → IsOfTwin o moment h.judge
+    → e.event ≡ Takes (CameFrom now o v) → IsInTime heard moment now h.judge → IsOfTwin o moment h.judge
     → (judged_at numbers (e ∷ calls) e.place).judge.has_twin ≡ true

@@ -26,25 +26,26 @@ use Rattle.wb_judging.specs.declared.call.Call.{Call}
 use Rattle.wb_judging.specs.declared.call.Call.TheVariants.{CameFrom, Held, Passed, UserDrew}
 use Rattle.wb_judging.specs.Laws.{drawops_in, sends_in}
 use Rattle.wb_judging.specs.Performing.{after_judged, events_of}
-use Rattle.wb_judged_sessions.specs.Sessions.{JudgedCall, JudgedCallAt, Starts, Takes, Tunes, judged_at}
+use Rattle.wb_judged_sessions.specs.Calls.{JudgedCall, Starts, Takes, Tunes}
+use Rattle.wb_judged_sessions.specs.Sessions.{At, judged_at}
 use Rattle.wb_judged_sessions.specs.Terms.{AreTaken}
 
 -- ---- calls of one member
 
 -- Each of some newer calls at a place is such.
-abbrev pub AllAre : (JudgedCall → Judged → Type 0) → (ℕ → ℕ) → (place : ℕ) → (newer older : List JudgedCallAt) → Type 0
+abbrev pub AllAre : (JudgedCall → Judged → Type 0) → (ℕ → ℕ) → (place : ℕ) → (newer older : List (At JudgedCall)) → Type 0
 AllAre Is numbers place [] older = Unit {0}
-AllAre Is numbers place (e ∷ newer) older = (e.place ≡ place → Is e.call (judged_at numbers (newer ++ older) place)) × AllAre Is numbers place newer older
+AllAre Is numbers place (e ∷ newer) older = (e.place ≡ place → Is e.event (judged_at numbers (newer ++ older) place)) × AllAre Is numbers place newer older
 
 -- One of them is a line that is such.
-pub record OneIs (Is : Call → Judged → Type 0) (numbers : ℕ → ℕ) (place : ℕ) (newer older : List JudgedCallAt) : Type 0 where
-  pub later : List JudgedCallAt
-  pub call : JudgedCallAt
-  pub earlier : List JudgedCallAt
+pub record OneIs (Is : Call → Judged → Type 0) (numbers : ℕ → ℕ) (place : ℕ) (newer older : List (At JudgedCall)) : Type 0 where
+  pub later : List (At JudgedCall)
+  pub call : At JudgedCall
+  pub earlier : List (At JudgedCall)
   pub split : newer ≡ later ++ call ∷ earlier
   pub here : call.place ≡ place
   pub line : Call
-  pub takes : call.call ≡ Takes line
+  pub takes : call.event ≡ Takes line
   pub is : Is line (judged_at numbers (earlier ++ older) place)
 
 -- What comes before a moment comes at such moments. The program does not start, and no line of a record has a drawop of the name.
@@ -61,7 +62,7 @@ abbrev pub IsFirmAt : NameValue → ℕ → Judged → Type 0
 IsFirmAt name now h = is_firm name now h.judge ≡ true
 
 -- What comes before a moment comes while a name is firm.
-abbrev pub StaysFirm : (until : ℕ) → NameValue → (ℕ → ℕ) → (place : ℕ) → (newer older : List JudgedCallAt) → Type 0
+abbrev pub StaysFirm : (until : ℕ) → NameValue → (ℕ → ℕ) → (place : ℕ) → (newer older : List (At JudgedCall)) → Type 0
 StaysFirm until name = AllAre (ComesWhen (IsFirmAt name) until name)
 
 abbrev pub Sends : Datagram → Call → Judged → Type 0
@@ -81,7 +82,7 @@ pub record IsToRepair (d : DrawopValue) (answer : AnswerTimer) (h : Judged) : Ty
 -- While the name is firm, whatever comes: it has sent the drawop, or the timer stands as it was, and its moment is still to come. So the first call at
 -- that moment or later sends it.
 abbrev pub RepairsAreSent : Type 0
-RepairsAreSent = (numbers : ℕ → ℕ) (newer older : List JudgedCallAt) (place : ℕ) (d : DrawopValue) (answer : AnswerTimer)
+RepairsAreSent = (numbers : ℕ → ℕ) (newer older : List (At JudgedCall)) (place : ℕ) (d : DrawopValue) (answer : AnswerTimer)
     → IsToRepair d answer (judged_at numbers older place) → StaysFirm answer.due d.name numbers place newer older
     → OneIs (Sends (Draw d)) numbers place newer older ⊎ IsToRepair d answer (judged_at numbers (newer ++ older) place)
 
@@ -111,7 +112,7 @@ EndsRequest name ask line h = Sends (Request h.kept.host.is.number name) line h 
 -- While the name is firm, whatever comes: one call ended it so, or the timer stands as it was, and its moment is still to come. No request of others
 -- puts it off.
 abbrev pub RequestsAreSent : Type 0
-RequestsAreSent = (numbers : ℕ → ℕ) (newer older : List JudgedCallAt) (place : ℕ) (name : NameValue) (ask : AskTimer) → AreTaken numbers (newer ++ older)
+RequestsAreSent = (numbers : ℕ → ℕ) (newer older : List (At JudgedCall)) (place : ℕ) (name : NameValue) (ask : AskTimer) → AreTaken numbers (newer ++ older)
     → IsToRequest name ask (judged_at numbers older place) → StaysFirm ask.due name numbers place newer older
     → OneIs (EndsRequest name ask) numbers place newer older ⊎ IsToRequest name ask (judged_at numbers (newer ++ older) place)
 
@@ -129,11 +130,11 @@ IsInTurn turn others now h = (turn_at now ≡ turn) × AreBeside others now h
 abbrev pub TurnsAreFirm : Type 0
 TurnsAreFirm = (numbers : ℕ → ℕ) (place : ℕ) (name : NameValue) (others now : ℕ)
     → (wait : ℕ) × (wait < turns others)
-    × ((newer older : List JudgedCallAt) (until : ℕ) → AllAre (ComesWhen (IsInTurn (turn_at now + wait) others) until name) numbers place newer older → StaysFirm until name numbers place newer older)
+    × ((newer older : List (At JudgedCall)) (until : ℕ) → AllAre (ComesWhen (IsInTurn (turn_at now + wait) others) until name) numbers place newer older → StaysFirm until name numbers place newer older)
 
 -- What is firm stays firm to the end of its turn, while the number of others stays.
 abbrev pub FirmForItsTurn : Type 0
-FirmForItsTurn = (numbers : ℕ → ℕ) (newer older : List JudgedCallAt) (place : ℕ) (name : NameValue) (others until : ℕ) → AreTaken numbers (newer ++ older)
+FirmForItsTurn = (numbers : ℕ → ℕ) (newer older : List (At JudgedCall)) (place : ℕ) (name : NameValue) (others until : ℕ) → AreTaken numbers (newer ++ older)
     → let now = present (judged_at numbers older place).kept.host in
     is_firm_beside others (numbers place) name now ≡ true → until ≤ (turn_at now + 1) * FIRM_TIME
     → AllAre (ComesWhen (AreBeside others) until name) numbers place newer older → StaysFirm until name numbers place newer older

@@ -9,14 +9,17 @@ use Rattle.wb_member.specs.Judged.{holds}
 use Rattle.wb_member.specs.Opened.{Opened, asks_for}
 use Rattle.wb_kept_progress.specs.Promises.{host_then, timer_then}
 use Rattle.wb_kept_progress.specs.Sessions.{Opening}
-use Rattle.wb_kept_progress.specs.Timed.{AllHoldBehind, AreInOrder, IsGivenUp, IsTimely, Performed, Start, TimedLine, performed, start_of, time_of}
+use Rattle.wb_kept_progress.specs.Timed.{AllHoldBehind, AreInOrder, At, IsGivenUp, IsTimely, Start, performed, start_of, time_of}
 use Rattle.wb_kept_progress.specs.Whole.{IsHeldBySome, NewAreKept, WaitAtMost, request_span, there}
 use Rattle.wb_kept_progress.proofs.AskedSince.{was_asked}
 use Rattle.wb_kept_progress.proofs.CallParts.{host_is}
 use Rattle.wb_kept_progress.proofs.GivenUp.{timer_leads_or_is_given_up}
-use Rattle.wb_kept_progress.proofs.Timely.{before_end, none_held, order_of}
+use Rattle.wb_kept_progress.proofs.Timely.{none_held}
 use Rattle.wb_kept_progress.proofs.WindowParts.{line_by}
 use Rattle.wb_kept_progress.proofs.Young.{timers_are_young}
+use Rattle.wb_keeping.specs.Laws.{KeptLine}
+use Rattle.wb_member.specs.Lines.{Line}
+use Rattle.wb_progress.proofs.Parts.{before_end, order_of}
 
 -- a timer that stands
 pub the_ask : (o : Option AskTimer) → is_some o ≡ true → (ask : AskTimer) × (o ≡ Some ask)
@@ -25,7 +28,7 @@ the_ask None e = absurd (true≢false (sym e))
 
 -- ---- what is asked for
 
-module _ (hosts : ℕ → Opening) (part : List TimedLine) (i : ℕ) (n : NameValue) (asked : asks_for n (there hosts part i).host ≡ true) where
+module _ (hosts : ℕ → Opening) (part : List (At KeptLine)) (i : ℕ) (n : NameValue) (asked : asks_for n (there hosts part i).host ≡ true) where
   -- a request timer stands for it
   pub timer_of : is_some (timer_then hosts (performed hosts part) i n) ≡ true
   timer_of = ap (λ (h : Opened). asks_for n h) (host_is hosts part i) ∙ asked
@@ -41,14 +44,14 @@ module _ (hosts : ℕ → Opening) (part : List TimedLine) (i : ℕ) (n : NameVa
 
 -- ---- by when it comes
 
-module _ (hosts : ℕ → Opening) (terms : Terms) (trace : List TimedLine) (wait : ℕ) (timely : IsTimely (λ j. start_of (hosts j)) terms (performed hosts trace)) (waits : WaitAtMost hosts terms trace wait)
-    (front back : List Performed) (i : ℕ) (n : NameValue) (ask : AskTimer) (split : performed hosts trace ≡ front ++ back)
+module _ (hosts : ℕ → Opening) (terms : Terms) (trace : List (At KeptLine)) (wait : ℕ) (timely : IsTimely (λ j. start_of (hosts j)) terms (performed hosts trace)) (waits : WaitAtMost hosts terms trace wait)
+    (front back : List (At Line)) (i : ℕ) (n : NameValue) (ask : AskTimer) (split : performed hosts trace ≡ front ++ back)
     (known : known_from terms + wait + repairing terms < time_of back) (live : Contains terms.live i)
     (held : IsHeldBySome hosts terms trace n) (stands : timer_then hosts back i n ≡ Some ask) where
   abbrev starts : ℕ → Start
   starts j = start_of (hosts j)
 
-  abbrev all : List Performed
+  abbrev all : List (At Line)
   all = performed hosts trace
 
   abbrev due : ℕ
@@ -85,8 +88,8 @@ module _ (hosts : ℕ → Opening) (terms : Terms) (trace : List TimedLine) (wai
       (timers_are_young hosts terms trace front back i wait n ask timely waits split live (omega (arith, known)) held stands)
 
 -- if none is given up before its timer was backed off
-module _ (hosts : ℕ → Opening) (terms : Terms) (trace : List TimedLine) (since wait : ℕ) (timely : IsTimely (λ j. start_of (hosts j)) terms (performed hosts trace)) (waits : WaitAtMost hosts terms trace wait)
-    (kept : NewAreKept hosts terms trace since) (front back : List Performed) (i : ℕ) (n : NameValue) (ask : AskTimer) (split : performed hosts trace ≡ front ++ back)
+module _ (hosts : ℕ → Opening) (terms : Terms) (trace : List (At KeptLine)) (since wait : ℕ) (timely : IsTimely (λ j. start_of (hosts j)) terms (performed hosts trace)) (waits : WaitAtMost hosts terms trace wait)
+    (kept : NewAreKept hosts terms trace since) (front back : List (At Line)) (i : ℕ) (n : NameValue) (ask : AskTimer) (split : performed hosts trace ≡ front ++ back)
     (known : known_from terms + wait + repairing terms < time_of back) (late : since < time_of back) (live : Contains terms.live i)
     (held : IsHeldBySome hosts terms trace n) (stands : timer_then hosts back i n ≡ Some ask) where
   not_given_up : ask.level ≡ 0 → (by : ℕ) → IsGivenUp (λ j. start_of (hosts j)) (performed hosts trace) back i n ask by → ⊥

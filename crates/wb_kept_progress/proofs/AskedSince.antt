@@ -23,14 +23,15 @@ use Rattle.wb_member.specs.declared.calls.Call.TheVariants.{Look, Ask}
 use Rattle.wb_keeping.specs.Kept.{Line, Calls}
 use Rattle.wb_keeping.specs.Performing.{after_line}
 use Rattle.wb_kept_progress.specs.Sessions.{Opening}
-use Rattle.wb_kept_progress.specs.Timed.{AreInOrder, IsTimely, Performed, Start, TimedLine, goes_by_delays, host_after, performed, start_of, time_of, timers_after, until}
+use Rattle.wb_kept_progress.specs.Timed.{AreInOrder, At, IsTimely, Start, goes_by_delays, host_after, performed, start_of, time_of, timers_after, until}
 use Rattle.wb_kept_progress.proofs.Begun.{HasNoTimers, tick_no_timers, ticks_keep}
 use Rattle.wb_kept_progress.proofs.CallLines.{made_by_policy}
-use Rattle.wb_kept_progress.proofs.CallParts.{until_last}
 use Rattle.wb_kept_progress.proofs.Lines.{line_of}
 use Rattle.wb_kept_progress.proofs.PerLine.{AsksOrLooks, IsMade, goes_by, line_did}
-use Rattle.wb_kept_progress.proofs.Timely.{clock, order_of, split_part}
+use Rattle.wb_kept_progress.proofs.Timely.{clock, split_part}
 use Rattle.std.proofs.lemmas.Option.{none-some}
+use Rattle.wb_keeping.specs.Laws.{KeptLine}
+use Rattle.wb_progress.proofs.Parts.{until_last, order_of}
 
 pub none_at_first : (hosts : ℕ → Start) (i : ℕ) (n : NameValue) → HasNoTimers n (host_after hosts [] i)
 none_at_first hosts i n = ticks_keep (HasNoTimers n) (tick_no_timers n) (hosts i).moments (opened_with (hosts i).constants (hosts i).number (hosts i).cells (hosts i).seed) refl
@@ -93,36 +94,36 @@ module _ (line : Line) (host : Opened) (far : ℕ) (bound : Tuning) (n : NameVal
 
 -- ---- a session that keeps to times
 
-module _ (hosts : ℕ → Opening) (terms : Terms) (trace : List TimedLine) (timely : IsTimely (λ j. start_of (hosts j)) terms (performed hosts trace)) where
+module _ (hosts : ℕ → Opening) (terms : Terms) (trace : List (At KeptLine)) (timely : IsTimely (λ j. start_of (hosts j)) terms (performed hosts trace)) where
   abbrev starts : ℕ → Start
   starts j = start_of (hosts j)
 
-  abbrev all : List Performed
+  abbrev all : List (At Line)
   all = performed hosts trace
 
-  order_at : (front part : List Performed) → all ≡ front ++ part → AreInOrder part
+  order_at : (front part : List (At Line)) → all ≡ front ++ part → AreInOrder part
   order_at front part split = order_of front part (subst AreInOrder split timely.order)
 
   -- a line of these asks for the name at a place, and the timer that it sets is due within the waits of a request
-  pub record WasAsked (back : List Performed) (i : ℕ) (n : NameValue) (ask : AskTimer) : Type 0 where
-    pub newer : List Performed
-    pub x : Performed
-    pub older : List Performed
+  pub record WasAsked (back : List (At Line)) (i : ℕ) (n : NameValue) (ask : AskTimer) : Type 0 where
+    pub newer : List (At Line)
+    pub x : At Line
+    pub older : List (At Line)
     pub split : back ≡ newer ++ x ∷ older
     pub place : x.place ≡ i
-    pub line : x.line ≡ Calls (Ask n)
+    pub line : x.event ≡ Calls (Ask n)
     pub due : ask.due + terms.lag i ≤ max x.time terms.quiet + terms.asking * terms.far
 
   -- by when a timer that stands at `quiet` is due, if it was not backed off
-  abbrev DueBy : List Performed → AskTimer → ℕ → Type 0
+  abbrev DueBy : List (At Line) → AskTimer → ℕ → Type 0
   DueBy part ask i = time_of part ≤ terms.quiet → ask.due + terms.lag i ≤ terms.quiet + terms.asking * terms.far
 
-  due_then : (front older : List Performed) (e : Performed) (i : ℕ) (n : NameValue) (ask : AskTimer) → all ≡ front ++ e ∷ older → terms.quiet < e.time → Contains terms.live i → (timers_after starts older i n).ask ≡ Some ask → ask.level ≡ 0 → DueBy older ask i
-  due_then front older e i n ask split late live stands level le = timely.delays.asks i n ask live (subst (λ (t : List Performed). (timers_after starts t i n).ask ≡ Some ask) (sym last) stands) level where
+  due_then : (front older : List (At Line)) (e : At Line) (i : ℕ) (n : NameValue) (ask : AskTimer) → all ≡ front ++ e ∷ older → terms.quiet < e.time → Contains terms.live i → (timers_after starts older i n).ask ≡ Some ask → ask.level ≡ 0 → DueBy older ask i
+  due_then front older e i n ask split late live stands level le = timely.delays.asks i n ask live (subst (λ (t : List (At Line)). (timers_after starts t i n).ask ≡ Some ask) (sym last) stands) level where
     last : until terms.quiet all ≡ older
     last = ap (until terms.quiet) split ∙ until_last terms.quiet front older e (subst AreInOrder split timely.order) late le
 
-  asked_at : (front back : List Performed) (i : ℕ) (n : NameValue) (ask : AskTimer) → all ≡ front ++ back → Contains terms.live i → (timers_after starts back i n).ask ≡ Some ask → ask.level ≡ 0 → DueBy back ask i → WasAsked back i n ask
+  asked_at : (front back : List (At Line)) (i : ℕ) (n : NameValue) (ask : AskTimer) → all ≡ front ++ back → Contains terms.live i → (timers_after starts back i n).ask ≡ Some ask → ask.level ≡ 0 → DueBy back ask i → WasAsked back i n ask
   asked_at front [] i n ask split live stands level by = absurd (none-some ask (sym (ap (λ (s : Timers). s.ask) (none_at_first starts i n)) ∙ stands))
   asked_at front (e ∷ older) i n ask split live stands level by = from (nat_eq e.place i) refl stands (λ stood. asked_at (front ++ e ∷ []) older i n ask part live stood level (before stood)) where
     part : all ≡ (front ++ e ∷ []) ++ older
@@ -135,7 +136,7 @@ module _ (hosts : ℕ → Opening) (terms : Terms) (trace : List TimedLine) (tim
     h = host_after starts older i
 
     later : WasAsked older i n ask → WasAsked (e ∷ older) i n ask
-    later w = record { newer = e ∷ w.newer; x = w.x; older = w.older; split = ap (λ (t : List Performed). e ∷ t) w.split; place = w.place; line = w.line; due = w.due }
+    later w = record { newer = e ∷ w.newer; x = w.x; older = w.older; split = ap (λ (t : List (At Line)). e ∷ t) w.split; place = w.place; line = w.line; due = w.due }
 
     before : (timers_after starts older i n).ask ≡ Some ask → DueBy older ask i
     before stood le = ⊎_elim
@@ -147,7 +148,7 @@ module _ (hosts : ℕ → Opening) (terms : Terms) (trace : List TimedLine) (tim
     wait = ((longest terms).c1 + (longest terms).c2) * terms.far
 
     Short : Type 0
-    Short = goes_by_delays e.line ≡ true → (source : ℕ) → delay h source ≤ terms.far
+    Short = goes_by_delays e.event ≡ true → (source : ℕ) → delay h source ≤ terms.far
 
     short : e.place ≡ i → terms.quiet < e.time → Short
     short here late goes source = subst (λ (k : ℕ). delay (host_after starts older k) source ≤ terms.far) here (timely.delays.goes front older e source split (subst (Contains terms.live) (sym here) live) late goes)
@@ -163,16 +164,16 @@ module _ (hosts : ℕ → Opening) (terms : Terms) (trace : List TimedLine) (tim
         omega (arith, due, o, m, most))
         (leb_tells e.time terms.quiet)
 
-    from : (b : Bool) → nat_eq e.place i ≡ b → (let g = cond b (after_line e.line h) h in (timers_of g.is.constants (events g) n).ask ≡ Some ask) → ((timers_after starts older i n).ask ≡ Some ask → WasAsked older i n ask) → WasAsked (e ∷ older) i n ask
+    from : (b : Bool) → nat_eq e.place i ≡ b → (let g = cond b (after_line e.event h) h in (timers_of g.is.constants (events g) n).ask ≡ Some ask) → ((timers_after starts older i n).ask ≡ Some ask → WasAsked older i n ask) → WasAsked (e ∷ older) i n ask
     from false other is rest = later (rest is)
     from true same is rest = ⊎_elim
         (λ (stood : (timers_of h.is.constants (events h) n).ask ≡ Some ask). later (rest stood))
-        (λ (asks : (e.line ≡ Calls (Ask n)) × (Short → ask.due ≤ present h + wait)). record { newer = []; x = e; older = older; split = refl; place = eqb-true e.place i same; line = asks.0; due = soon (eqb-true e.place i same) asks.1 })
-        (line_asked e.line h terms.far (longest terms) n (timely.tuned (front ++ e ∷ []) older i part live) (λ page. made_by_policy hosts trace front older e (Look page) split) ask is level)
+        (λ (asks : (e.event ≡ Calls (Ask n)) × (Short → ask.due ≤ present h + wait)). record { newer = []; x = e; older = older; split = refl; place = eqb-true e.place i same; line = asks.0; due = soon (eqb-true e.place i same) asks.1 })
+        (line_asked e.event h terms.far (longest terms) n (timely.tuned (front ++ e ∷ []) older i part live) (λ page. made_by_policy hosts trace front older e (Look page) split) ask is level)
 
-  pub was_asked : (front back : List Performed) (i : ℕ) (n : NameValue) (ask : AskTimer) → all ≡ front ++ back → terms.quiet < time_of back → Contains terms.live i → (timers_after starts back i n).ask ≡ Some ask → ask.level ≡ 0 → WasAsked back i n ask
+  pub was_asked : (front back : List (At Line)) (i : ℕ) (n : NameValue) (ask : AskTimer) → all ≡ front ++ back → terms.quiet < time_of back → Contains terms.live i → (timers_after starts back i n).ask ≡ Some ask → ask.level ≡ 0 → WasAsked back i n ask
   was_asked front back i n ask split late live stands level = asked_at front back i n ask split live stands level (λ le. absurd (omega (arith, le, late)))
 
   -- it stands where a line comes from `quiet` on
-  pub was_asked_before : (front back : List Performed) (x : Performed) (i : ℕ) (n : NameValue) (ask : AskTimer) → all ≡ front ++ x ∷ back → terms.quiet < x.time → Contains terms.live i → (timers_after starts back i n).ask ≡ Some ask → ask.level ≡ 0 → WasAsked back i n ask
+  pub was_asked_before : (front back : List (At Line)) (x : At Line) (i : ℕ) (n : NameValue) (ask : AskTimer) → all ≡ front ++ x ∷ back → terms.quiet < x.time → Contains terms.live i → (timers_after starts back i n).ask ≡ Some ask → ask.level ≡ 0 → WasAsked back i n ask
   was_asked_before front back x i n ask split late live stands level = asked_at (front ++ x ∷ []) back i n ask (split_part starts terms all timely front back x split) live stands level (due_then front back x i n ask split late live stands level)

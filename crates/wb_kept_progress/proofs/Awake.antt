@@ -22,13 +22,12 @@ use Rattle.wb_keeping.specs.Performing.{Keeping, after_doing, sees}
 use Rattle.wb_keeping.proofs.EachStep.{having}
 use Rattle.wb_kept_progress.specs.Filling.{OnlyHolesAreLacked}
 use Rattle.wb_kept_progress.specs.LeadsOn.{AsksForMissing, IsMissingAt, IsNew, with_drawop}
-use Rattle.wb_kept_progress.specs.Sessions.{AreTaken, LineAt, Opening, at, kept_at}
-use Rattle.wb_kept_progress.specs.Timed.{TimedLine, called_at, lines_of}
-use Rattle.wb_kept_progress.specs.Whole.{AreCalledInOrder, HolesAreHeld, IsHeldBySome, IsTimelySession, there}
+use Rattle.wb_kept_progress.specs.Sessions.{AreTaken, At, Opening, at, kept_at}
+use Rattle.wb_kept_progress.specs.Timed.{AreInOrder, time_of}
+use Rattle.wb_kept_progress.specs.Whole.{HolesAreHeld, IsHeldBySome, IsTimelySession, there}
 use Rattle.wb_kept_progress.proofs.AskedInCalls.{HasAsk, IsMore, asks_as, more_differs}
 use Rattle.wb_kept_progress.proofs.AskedStays.{AsksOne, IsDrawing, IsOfNew, MayStay, StaysAsked, more_is_new, stays_asked, stood_or_calls}
 use Rattle.wb_kept_progress.proofs.Becoming.{lacked_before}
-use Rattle.wb_kept_progress.proofs.CallParts.{calls_order}
 use Rattle.wb_kept_progress.proofs.Causes.{goes}
 use Rattle.wb_kept_progress.proofs.Courses.{IsCourse}
 use Rattle.wb_kept_progress.proofs.InTurn.{IsIdle, IsTimedCall, IsTurning, idle_due, idle_or_turning, timed_now, turned_later, turned_soon}
@@ -43,8 +42,9 @@ use Rattle.wb_kept_progress.proofs.TurnNames.{turn_names}
 use Rattle.wb_kept_progress.proofs.Turning.{answers_at, in_hole, missing_is_lacked}
 use Rattle.wb_kept_progress.proofs.WantedIn.{IsAskedInCall, LacksCredit, no_credit_then}
 use Rattle.wb_kept_progress.proofs.WholeParts.{HasTurn, does}
+use Rattle.wb_progress.proofs.Parts.{order_of}
 
-module _ (hosts : ℕ → Opening) (terms : Terms) (trace : List TimedLine) (since : ℕ) (session : IsTimelySession hosts terms trace) (holes_held : HolesAreHeld hosts terms trace) (only : OnlyHolesAreLacked hosts terms trace since) where
+module _ (hosts : ℕ → Opening) (terms : Terms) (trace : List (At KeptLine)) (since : ℕ) (session : IsTimelySession hosts terms trace) (holes_held : HolesAreHeld hosts terms trace) (only : OnlyHolesAreLacked hosts terms trace since) where
   abbrev IsSome : NameValue → Type 0
   IsSome n = IsHeldBySome hosts terms trace n
 
@@ -65,13 +65,13 @@ module _ (hosts : ℕ → Opening) (terms : Terms) (trace : List TimedLine) (sin
     pub spent : IsAwake next ⊎ (next.policy.owed ≤ k.policy.owed)
     pub paced : (next.policy.pace.due ≡ k.policy.pace.due) ⊎ TakesTurn k next now
 
-  module _ (newer older : List TimedLine) (e : TimedLine) (n : NameValue) (split : trace ≡ newer ++ e ∷ older) (live : Contains terms.live e.at.place) (settled : settled_by terms < called_at older) (from : since ≤ called_at older)
-      (held : IsSome n) (lacks : holds (there hosts (e ∷ older) e.at.place).host.is.held n ≡ false) where
+  module _ (newer older : List (At KeptLine)) (e : At KeptLine) (n : NameValue) (split : trace ≡ newer ++ e ∷ older) (live : Contains terms.live e.place) (settled : settled_by terms < time_of older) (from : since ≤ time_of older)
+      (held : IsSome n) (lacks : holds (there hosts (e ∷ older) e.place).host.is.held n ≡ false) where
     abbrev i : ℕ
-    i = e.at.place
+    i = e.place
 
     abbrev now : ℕ
-    now = moment_of e.at.line
+    now = moment_of e.event
 
     abbrev k : Keeping
     k = there hosts older i
@@ -80,16 +80,16 @@ module _ (hosts : ℕ → Opening) (terms : Terms) (trace : List TimedLine) (sin
     next = there hosts (e ∷ older) i
 
     abbrev done : Keeping
-    done = after_doing (doing_of e.at.line) k
+    done = after_doing (doing_of e.event) k
 
     next_is : next ≡ done
-    next_is = moved hosts (lines_of older) i e.at.line
+    next_is = moved hosts older i e.event
 
     before_it : trace ≡ (newer ++ e ∷ []) ++ older
     before_it = split ∙ sym (append_assoc newer (e ∷ []) older)
 
-    order : called_at older ≤ e.time
-    order = (calls_order newer (e ∷ older) (subst AreCalledInOrder split session.order)).0
+    order : time_of older ≤ e.time
+    order = (order_of newer (e ∷ older) (subst AreInOrder split session.order)).0
 
     settled_then : settled_by terms < e.time
     settled_then = let o = order in omega (arith, settled, o)
@@ -97,14 +97,14 @@ module _ (hosts : ℕ → Opening) (terms : Terms) (trace : List TimedLine) (sin
     from_then : since ≤ e.time
     from_then = let o = order in omega (arith, from, o)
 
-    taken : AreTaken hosts (lines_of (e ∷ older))
-    taken = taken_of hosts newer (e ∷ older) (subst (λ (t : List TimedLine). AreTaken hosts (lines_of t)) split session.taken)
+    taken : AreTaken hosts (e ∷ older)
+    taken = taken_of hosts newer (e ∷ older) (subst (λ (t : List (At KeptLine)). AreTaken hosts t) split session.taken)
 
-    none : fault_of e.at.line k ≡ None
+    none : fault_of e.event k ≡ None
     none = taken.0
 
     answering : AnswersWhatIsHeld k.host
-    answering = answers_at hosts (lines_of older) i
+    answering = answers_at hosts older i
 
     room : is_full next.host ≡ false
     room = session.room newer (e ∷ older) i split live (let s = settled_then in omega (arith, s))
@@ -145,7 +145,7 @@ module _ (hosts : ℕ → Opening) (terms : Terms) (trace : List TimedLine) (sin
       may = record { answers_held = answering; room = subst (λ (x : Keeping). is_full x.host ≡ false) next_is room; asks = asks_as (λ x. IsSome x ⊎ HasTurn k now x) IsSome in_turn lines c.asks }
 
       stays : StaysAsked IsSome k lines done
-      stays = stays_asked IsSome e.at.line k none
+      stays = stays_asked IsSome e.event k none
 
       awake_at : IsAwake done ⊎ IsMore k done → IsAwake next
       awake_at is = ⊎_elim
@@ -159,14 +159,14 @@ module _ (hosts : ℕ → Opening) (terms : Terms) (trace : List TimedLine) (sin
       spent : IsAwake next ⊎ (next.policy.owed ≤ k.policy.owed)
       spent = ⊎_elim (λ (h : HasAsk lines). inl (begins h)) (λ (le : done.policy.owed ≤ k.policy.owed). inr (subst (λ (x : Keeping). x.policy.owed ≤ k.policy.owed) (sym next_is) le)) stays.spent
 
-      asked_in_turn : IsAskedInCall names.0 (doing_of e.at.line) k → IsAwake next
+      asked_in_turn : IsAskedInCall names.0 (doing_of e.event) k → IsAwake next
       asked_in_turn a = ⊎_elim
           (λ (stood : asks_for names.0 k.host ≡ true).
           awake_at (stays.on may (record { name = names.0; is = some_before names.0 names.2; lacks = missing_is_lacked k.host.is.held names.0 names.2; asked = stood })))
           begins
-          (stood_or_calls names.0 e.at.line k a)
+          (stood_or_calls names.0 e.event k a)
 
-      turns : IsTurning (doing_of e.at.line) k now → TakesTurn k next now
+      turns : IsTurning (doing_of e.event) k now → TakesTurn k next now
       turns t =
           let due = ap (λ (x : Keeping). x.policy.pace.due) next_is in
           let least = t.least in
@@ -177,7 +177,7 @@ module _ (hosts : ℕ → Opening) (terms : Terms) (trace : List TimedLine) (sin
             least = omega (arith, due, least);
             most = omega (arith, due, most);
             awake = ⊎_elim
-                (λ (a : IsAskedInCall names.0 (doing_of e.at.line) k). inl (asked_in_turn a))
+                (λ (a : IsAskedInCall names.0 (doing_of e.event) k). inl (asked_in_turn a))
                 (λ (without : LacksCredit done). ⊎_elim
                 (λ (awake : IsAwake next). inl awake)
                 (λ (le : next.policy.owed ≤ k.policy.owed).
@@ -187,38 +187,35 @@ module _ (hosts : ℕ → Opening) (terms : Terms) (trace : List TimedLine) (sin
                 (t.wants names.0 (missing_is_lacked k.host.is.held names.0 names.2) (session.room (newer ++ e ∷ []) older i before_it live (omega (arith, settled))) names.1);
           }
 
-      timed_paced : IsTimedCall (doing_of e.at.line) k now → (next.policy.pace.due ≡ k.policy.pace.due) ⊎ TakesTurn k next now
+      timed_paced : IsTimedCall (doing_of e.event) k now → (next.policy.pace.due ≡ k.policy.pace.due) ⊎ TakesTurn k next now
       timed_paced call = ⊎_elim
-          (λ (idle : IsIdle (doing_of e.at.line) k now). inl (ap (λ (x : Keeping). x.policy.pace.due) next_is ∙ idle.due))
-          (λ (t : IsTurning (doing_of e.at.line) k now). inr (turns t))
-          (idle_or_turning (doing_of e.at.line) k now call)
+          (λ (idle : IsIdle (doing_of e.event) k now). inl (ap (λ (x : Keeping). x.policy.pace.due) next_is ∙ idle.due))
+          (λ (t : IsTurning (doing_of e.event) k now). inr (turns t))
+          (idle_or_turning (doing_of e.event) k now call)
 
       still_goes_on : GoesOn k next now
       still_goes_on = record {
         on = λ a. awake_at (stays.on may a);
         spent = spent;
         paced = ⊎_elim
-            (λ (t : IsTuning (doing_of e.at.line) k). inl (ap (λ (x : Keeping). x.policy.pace.due) next_is ∙ ap (λ (p : Policy). p.pace.due) t.policy))
+            (λ (t : IsTuning (doing_of e.event) k). inl (ap (λ (x : Keeping). x.policy.pace.due) next_is ∙ ap (λ (p : Policy). p.pace.due) t.policy))
             timed_paced
-            (still_call e.at.line k now (told_itself e.at.line)
+            (still_call e.event k now (told_itself e.event)
             (λ now page time op is. session.drawn newer older e now page time op split (let s = settled_then in omega (arith, s)) is) answering
             (ap (λ (x : Keeping). x.host.is.held) (sym next_is) ∙ c.held));
       }
 
     -- ---- a drawop that is new
 
-    module _ (w : IsOfNew e.at.line k.host) where
-      same : lines_of (e ∷ older) ≡ with_drawop i w.now w.d (lines_of older)
-      same = ap (λ (line : KeptLine). at i line ∷ lines_of older) w.is
-
+    module _ (w : IsOfNew e.event k.host) where
       abbrev m : Keeping
-      m = kept_at hosts (with_drawop i w.now w.d (lines_of older)) i
+      m = kept_at hosts (with_drawop i w.now w.d older) i
 
       m_is : m ≡ next
-      m_is = ap (λ (ls : List LineAt). kept_at hosts ls i) (sym same)
+      m_is = ap (λ (line : KeptLine). kept_at hosts (at i line ∷ older) i) (sym w.is)
 
-      new : IsNew hosts (lines_of older) i w.now w.d
-      new = record { taken = subst (AreTaken hosts) same taken; lacked = w.lacks; room = subst (λ (x : Keeping). is_full x.host ≡ false) (sym m_is) room }
+      new : IsNew hosts older i w.now w.d
+      new = record { taken = subst (λ (line : KeptLine). AreTaken hosts (at i line ∷ older)) w.is taken; lacked = w.lacks; room = subst (λ (x : Keeping). is_full x.host ≡ false) (sym m_is) room }
 
       missing_m : IsMissingAt m n
       missing_m = subst (λ (x : Keeping). IsMissingAt x n) (sym m_is) missing_then
@@ -264,22 +261,22 @@ module _ (hosts : ℕ → Opening) (terms : Terms) (trace : List TimedLine) (sin
       awake_new : IsAwake next → GoesOn k next w.now
       awake_new awake = record { on = λ a. awake; spent = inl awake; paced = new_paced (λ late. inl awake) }
 
-      unasked_new : was hosts (lines_of older) i w.now w.d new ≡ false → GoesOn k next w.now
+      unasked_new : was hosts older i w.now w.d new ≡ false → GoesOn k next w.now
       unasked_new unasked = record {
-        on = λ a. awake_m (goes_on hosts (lines_of older) i w.now w.d new unasked a.name a.lacks a.asked (missing_a a.name a.is));
+        on = λ a. awake_m (goes_on hosts older i w.now w.d new unasked a.name a.lacks a.asked (missing_a a.name a.is));
         spent = ⊎_elim
             (λ (asks : AsksForMissing m). inl (awake_m asks))
             (λ (le : m.policy.owed ≤ k.policy.owed). inr (subst (λ (x : Keeping). x.policy.owed ≤ k.policy.owed) m_is le))
-            (spends hosts (lines_of older) i w.now w.d new unasked);
+            (spends hosts older i w.now w.d new unasked);
         paced = new_paced (λ late. ⊎_elim
             (λ (asks : AsksForMissing m). inl (awake_m asks))
             (λ (none : has_credit k.policy.owed w.now ≡ false). inr none)
-            (turned_so hosts (lines_of older) i w.now w.d new unasked n missing_m
-            (subst (λ (x : Keeping). x.policy.pace.due ≤ present x.host) (before_due hosts (lines_of older) i w.now w.d new unasked) late)));
+            (turned_so hosts older i w.now w.d new unasked n missing_m
+            (subst (λ (x : Keeping). x.policy.pace.due ≤ present x.host) (before_due hosts older i w.now w.d new unasked) late)));
       } where
         -- what is held once it has come
         then : next.host.is.held ≡ (having (Arrives w.d) ticked).host.is.held
-        then = ap (λ (x : Keeping). x.host.is.held) (sym m_is) ∙ held_is hosts (lines_of older) i w.now w.d new
+        then = ap (λ (x : Keeping). x.host.is.held) (sym m_is) ∙ held_is hosts older i w.now w.d new
 
         missing_a : (x : NameValue) → IsSome x → holds (having (Arrives w.d) ticked).host.is.held x ≡ false → IsMissingAt (having (Arrives w.d) ticked) x
         missing_a x some lacks_x =
@@ -287,16 +284,16 @@ module _ (hosts : ℕ → Opening) (terms : Terms) (trace : List TimedLine) (sin
             (only newer (e ∷ older) i x split live from_then some (ap (λ (held : List DrawopValue). holds held x) then ∙ lacks_x))
 
       new_goes_on : GoesOn k next now
-      new_goes_on = subst (GoesOn k next) (sym (ap moment_of w.is)) (by (was hosts (lines_of older) i w.now w.d new) refl) where
-        by : (b : Bool) → was hosts (lines_of older) i w.now w.d new ≡ b → GoesOn k next w.now
-        by true e = awake_new (awake_m (leads_on hosts (lines_of older) i w.now w.d new (asked_before hosts (lines_of older) i w.now w.d new e) n missing_m))
+      new_goes_on = subst (GoesOn k next) (sym (ap moment_of w.is)) (by (was hosts older i w.now w.d new) refl) where
+        by : (b : Bool) → was hosts older i w.now w.d new ≡ b → GoesOn k next w.now
+        by true e = awake_new (awake_m (leads_on hosts older i w.now w.d new (asked_before hosts older i w.now w.d new e) n missing_m))
         by false e = unasked_new e
 
     pub call_goes_on : GoesOn k next now
     call_goes_on = ⊎_elim
         (λ (more : IsMore k next). ⊎_elim
         new_goes_on
-        (λ (drawn : IsDrawing e.at.line). absurd (session.drawn newer older e drawn.0 drawn.1 drawn.2 drawn.3 split (let s = settled_then in omega (arith, s)) drawn.4))
-        (more_is_new e.at.line k (subst (IsMore k) next_is more)))
+        (λ (drawn : IsDrawing e.event). absurd (session.drawn newer older e drawn.0 drawn.1 drawn.2 drawn.3 split (let s = settled_then in omega (arith, s)) drawn.4))
+        (more_is_new e.event k (subst (IsMore k) next_is more)))
         still_goes_on
         (goes held_was_held hosts terms trace session newer older e split settled_then)

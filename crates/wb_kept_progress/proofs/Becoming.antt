@@ -17,12 +17,12 @@ use Rattle.wb_keeper.specs.Keeper.{holds as history_holds}
 use Rattle.wb_member.specs.Judged.{holds}
 use Rattle.wb_member.specs.Opened.{Opened, accepted}
 use Rattle.wb_keeping.specs.Kept.{Line, Arrives, Says, Calls}
-use Rattle.wb_keeping.specs.Laws.{doing_of}
+use Rattle.wb_keeping.specs.Laws.{KeptLine, doing_of}
 use Rattle.wb_keeping.specs.Performing.{Keeping, after_doing, after_line, after_lines, sees}
 use Rattle.wb_kept_progress.specs.Sessions.{Opening, kept_at}
-use Rattle.wb_kept_progress.specs.Timed.{AllKeptHoldBehind, TimedLine, called_at, host_after, lines_of, performed, start_of, until}
+use Rattle.wb_kept_progress.specs.Timed.{AllKeptHoldBehind, AreInOrder, At, host_after, performed, start_of, time_of, until}
 use Rattle.wb_kept_progress.specs.Promises.{Holds, IsLate, IsStill, LackIsAsked, PromisesSuffice}
-use Rattle.wb_kept_progress.specs.Whole.{AreCalledInOrder, IsHeldBySome, IsLackedAt, Lack, Sizes, asked_within, report_span, request_span, step, there, whole_by}
+use Rattle.wb_kept_progress.specs.Whole.{IsHeldBySome, IsLackedAt, Lack, Sizes, asked_within, report_span, request_span, step, there, whole_by}
 use Rattle.wb_kept_progress.proofs.CallsInTime.{performed_is_timely}
 use Rattle.wb_kept_progress.proofs.GivenUp.{timer_leads_or_is_given_up}
 use Rattle.wb_kept_progress.proofs.NothingNew.{held_was_held}
@@ -96,30 +96,30 @@ new_name h more d once held = let x = held_as h d.name held in apart h more d x.
 -- ---- what hosts hold after calls
 
 module _ (hosts : ℕ → Opening) where
-  abbrev held_at : List TimedLine → ℕ → List DrawopValue
+  abbrev held_at : List (At KeptLine) → ℕ → List DrawopValue
   held_at calls i = (there hosts calls i).host.is.held
 
-  call_appends : (e : TimedLine) (older : List TimedLine) (i : ℕ) → Appends (held_at older i) (held_at (e ∷ older) i)
-  call_appends e older i = by (nat_eq e.at.place i) where
+  call_appends : (e : At KeptLine) (older : List (At KeptLine)) (i : ℕ) → Appends (held_at older i) (held_at (e ∷ older) i)
+  call_appends e older i = by (nat_eq e.place i) where
     k : Keeping
     k = there hosts older i
 
-    by : (b : Bool) → Appends (held_at older i) (cond b (after_doing (doing_of e.at.line) k) k).host.is.held
-    by true = lines_append (doing_of e.at.line (sees k.host) k.policy).lines k.host
+    by : (b : Bool) → Appends (held_at older i) (cond b (after_doing (doing_of e.event) k) k).host.is.held
+    by true = lines_append (doing_of e.event (sees k.host) k.policy).lines k.host
     by false = nothing (held_at older i)
 
-  pub appends : (front part : List TimedLine) (i : ℕ) → Appends (held_at part i) (held_at (front ++ part) i)
+  pub appends : (front part : List (At KeptLine)) (i : ℕ) → Appends (held_at part i) (held_at (front ++ part) i)
   appends [] part i = nothing (held_at part i)
   appends (e ∷ front) part i = joined (held_at part i) (held_at (front ++ part) i) (held_at (e ∷ (front ++ part)) i) (appends front part i) (call_appends e (front ++ part) i)
 
   -- what is held stays
-  pub held_on : (front part : List TimedLine) (i : ℕ) (n : NameValue) → holds (there hosts part i).host n ≡ true → holds (there hosts (front ++ part) i).host n ≡ true
+  pub held_on : (front part : List (At KeptLine)) (i : ℕ) (n : NameValue) → holds (there hosts part i).host n ≡ true → holds (there hosts (front ++ part) i).host n ≡ true
   held_on front part i n h =
       let a = appends front part i in
       let d = held_as (held_at part i) n h in
       holds_from (held_at (front ++ part) i) n d.0 (subst (λ (held : List DrawopValue). Contains held d.0) (sym a.is) (Contains-append_left (held_at part i) a.more d.0 d.1)) d.2
 
-  pub lacked_before : (front part : List TimedLine) (i : ℕ) (n : NameValue) → holds (there hosts (front ++ part) i).host n ≡ false → holds (there hosts part i).host n ≡ false
+  pub lacked_before : (front part : List (At KeptLine)) (i : ℕ) (n : NameValue) → holds (there hosts (front ++ part) i).host n ≡ false → holds (there hosts part i).host n ≡ false
   lacked_before front part i n lacks = by (holds (there hosts part i).host n) refl where
     by : (b : Bool) → holds (there hosts part i).host n ≡ b → b ≡ false
     by false e = refl
@@ -128,17 +128,17 @@ module _ (hosts : ℕ → Opening) where
   -- ---- something new, or nothing
 
   -- a live host got something new
-  record Gains (live : List ℕ) (window base : List TimedLine) : Type 0 where
+  record Gains (live : List ℕ) (window base : List (At KeptLine)) : Type 0 where
     place : ℕ
     among : Contains live place
     name : NameValue
     held : holds (there hosts (window ++ base) place).host name ≡ true
     lacked : holds (there hosts base place).host name ≡ false
 
-  abbrev AreSame : List ℕ → List TimedLine → List TimedLine → Type 0
+  abbrev AreSame : List ℕ → List (At KeptLine) → List (At KeptLine) → Type 0
   AreSame live window base = (i : ℕ) → Contains live i → held_at (window ++ base) i ≡ held_at base i
 
-  pub one_gains : (window base : List TimedLine) (i : ℕ) → IsHistory (held_at (window ++ base) i)
+  pub one_gains : (window base : List (At KeptLine)) (i : ℕ) → IsHistory (held_at (window ++ base) i)
       → (held_at (window ++ base) i ≡ held_at base i) ⊎ ((n : NameValue) × (holds (there hosts (window ++ base) i).host n ≡ true) × (holds (there hosts base i).host n ≡ false))
   one_gains window base i once = by (appends window base i) where
     by : Appends (held_at base i) (held_at (window ++ base) i)
@@ -156,7 +156,7 @@ module _ (hosts : ℕ → Opening) where
         lacked false e = refl
         lacked true e = absurd (new_name (held_at base i) more d (subst IsHistory is once) e)
 
-  gains : (live : List ℕ) (window base : List TimedLine) → ((i : ℕ) → IsHistory (held_at (window ++ base) i)) → AreSame live window base ⊎ Gains live window base
+  gains : (live : List ℕ) (window base : List (At KeptLine)) → ((i : ℕ) → IsHistory (held_at (window ++ base) i)) → AreSame live window base ⊎ Gains live window base
   gains [] window base once = inl (λ i c. absurd (Contains-none i c))
   gains (i ∷ live) window base once = ⊎_elim
       (λ (same : held_at (window ++ base) i ≡ held_at base i). ⊎_elim
@@ -170,16 +170,16 @@ module _ (hosts : ℕ → Opening) where
 -- ---- a session
 
 -- what a live host lacks behind a time that is late enough, and another held, it lacked at first
-pub lacked_first : (hosts : ℕ → Opening) (terms : Terms) (trace newer part : List TimedLine) (i : ℕ) (n : NameValue) → AreCalledInOrder trace → trace ≡ newer ++ part → settled_by terms < called_at part → Contains terms.live i → IsHeldBySome hosts terms trace n
+pub lacked_first : (hosts : ℕ → Opening) (terms : Terms) (trace newer part : List (At KeptLine)) (i : ℕ) (n : NameValue) → AreInOrder trace → trace ≡ newer ++ part → settled_by terms < time_of part → Contains terms.live i → IsHeldBySome hosts terms trace n
     → holds (there hosts part i).host n ≡ false → IsLackedAt hosts terms trace (until (settled_by terms) (performed hosts trace)) (record { place = i; name = n })
 lacked_first hosts terms trace newer part i n order split late live held lacks = (
   live,
   held,
-  subst (λ (t : List TimedLine). holds (host_after (λ j. start_of (hosts j)) (until (settled_by terms) (performed hosts t)) i) n ≡ false) (sym split)
-      (lacked_until hosts newer part (settled_by terms) i n (subst AreCalledInOrder split order) late lacks),
+  subst (λ (t : List (At KeptLine)). holds (host_after (λ j. start_of (hosts j)) (until (settled_by terms) (performed hosts t)) i) n ≡ false) (sym split)
+      (lacked_until hosts newer part (settled_by terms) i n (subst AreInOrder split order) late lacks),
 )
 
-module _ (hosts : ℕ → Opening) (terms : Terms) (trace : List TimedLine) (sizes : Sizes) (wait most : ℕ) (all : Holds hosts terms trace sizes wait most)
+module _ (hosts : ℕ → Opening) (terms : Terms) (trace : List (At KeptLine)) (sizes : Sizes) (wait most : ℕ) (all : Holds hosts terms trace sizes wait most)
     (was_held : HeldWasHeld) (asked : LackIsAsked) (ends : StillnessEnds) where
   abbrev start : ℕ
   start = max (known_from terms + wait + repairing terms) sizes.since
@@ -190,8 +190,8 @@ module _ (hosts : ℕ → Opening) (terms : Terms) (trace : List TimedLine) (siz
   abbrev still_by : ℕ → ℕ
   still_by from = from + asked_within terms sizes + sizes.gives * request_span terms + repairing terms
 
-  ends_soon : (newest window base : List TimedLine) → IsStill hosts terms trace newest window base → IsLate terms sizes wait base → (i : ℕ) → Contains terms.live i → (n : NameValue) → IsHeldBySome hosts terms trace n
-      → holds (there hosts base i).host n ≡ false → called_at (window ++ base) ≤ still_by (called_at base)
+  ends_soon : (newest window base : List (At KeptLine)) → IsStill hosts terms trace newest window base → IsLate terms sizes wait base → (i : ℕ) → Contains terms.live i → (n : NameValue) → IsHeldBySome hosts terms trace n
+      → holds (there hosts base i).host n ≡ false → time_of (window ++ base) ≤ still_by (time_of base)
   ends_soon newest window base still late i live n held lacks = ⊎_elim
       (λ no. let le = no.1 in omega (arith, le))
       (λ yes.
@@ -199,7 +199,7 @@ module _ (hosts : ℕ → Opening) (terms : Terms) (trace : List TimedLine) (siz
       let soon = a.3 in
       let e = ends hosts terms trace newest window base sizes wait most i a.0 all still late live a.1 a.2 in
       omega (arith, e, soon))
-      (leb_tells (called_at (window ++ base)) (called_at base + asked_within terms sizes))
+      (leb_tells (time_of (window ++ base)) (time_of base + asked_within terms sizes))
 
   -- ---- step by step
 
@@ -207,14 +207,14 @@ module _ (hosts : ℕ → Opening) (terms : Terms) (trace : List TimedLine) (siz
   at_step k = start + k * step terms sizes
 
   -- Of k + 1 lacks at first, each but the last is filled after k steps.
-  record AreFilled (part : List TimedLine) (i : ℕ) (n : NameValue) (k : ℕ) : Type 0 where
+  record AreFilled (part : List (At KeptLine)) (i : ℕ) (n : NameValue) (k : ℕ) : Type 0 where
     lacks : List Lack
     apart : AreApart lacks
     count : length lacks ≡ k + 1
     first : (x : Lack) → Contains lacks x → IsLackedAt hosts terms trace (until (settled_by terms) (performed hosts trace)) x
     then : (x : Lack) → Contains lacks x → (x ≡ record { place = i; name = n }) ⊎ (holds (there hosts part x.place).host x.name ≡ true)
 
-  filled : (k : ℕ) (newer part : List TimedLine) (i : ℕ) (n : NameValue) → trace ≡ newer ++ part → at_step k < called_at part → Contains terms.live i → IsHeldBySome hosts terms trace n → holds (there hosts part i).host n ≡ false → AreFilled part i n k
+  filled : (k : ℕ) (newer part : List (At KeptLine)) (i : ℕ) (n : NameValue) → trace ≡ newer ++ part → at_step k < time_of part → Contains terms.live i → IsHeldBySome hosts terms trace n → holds (there hosts part i).host n ≡ false → AreFilled part i n k
   filled zero newer part i n split late live held lacks = record {
     lacks = record { place = i; name = n } ∷ [];
     apart = (λ c. absurd (Contains-none _ c), tt);
@@ -228,26 +228,26 @@ module _ (hosts : ℕ → Opening) (terms : Terms) (trace : List TimedLine) (siz
   filled (suc k) newer part i n split late live held lacks =
       let r = reached hosts terms trace all.session sizes.since sizes.pause all.soon.reports newer part (at_step k) i split live (omega arith) (omega arith) (omega (arith, late)) in
       by_window r.window r.base r.split r.from r.soon (filled k (newer ++ r.window) r.base) where
-        by_window : (window base : List TimedLine) → part ≡ window ++ base → at_step k < called_at base → called_at base ≤ at_step k + report_span terms sizes
-            → ((j : ℕ) (m : NameValue) → trace ≡ (newer ++ window) ++ base → at_step k < called_at base → Contains terms.live j → IsHeldBySome hosts terms trace m → holds (there hosts base j).host m ≡ false → AreFilled base j m k) → AreFilled part i n (suc k)
+        by_window : (window base : List (At KeptLine)) → part ≡ window ++ base → at_step k < time_of base → time_of base ≤ at_step k + report_span terms sizes
+            → ((j : ℕ) (m : NameValue) → trace ≡ (newer ++ window) ++ base → at_step k < time_of base → Contains terms.live j → IsHeldBySome hosts terms trace m → holds (there hosts base j).host m ≡ false → AreFilled base j m k) → AreFilled part i n (suc k)
         by_window window base is from soon before = ⊎_elim
             (λ (same : AreSame hosts terms.live window base).
             let still : IsStill hosts terms trace newer window base = record {
               split = whole;
               same = λ front mid j f live_j. nothing_more (held_at hosts base j) (held_at hosts (mid ++ base) j) (held_at hosts (window ++ base) j) (appends hosts mid base j)
-                  (subst (λ (t : List TimedLine). Appends (held_at hosts (mid ++ base) j) (held_at hosts t j)) (sym (ap (λ (t : List TimedLine). t ++ base) f ∙ append_assoc front mid base)) (appends hosts front (mid ++ base) j)) (same j live_j);
+                  (subst (λ (t : List (At KeptLine)). Appends (held_at hosts (mid ++ base) j) (held_at hosts t j)) (sym (ap (λ (t : List (At KeptLine)). t ++ base) f ∙ append_assoc front mid base)) (appends hosts front (mid ++ base) j)) (same j live_j);
             } in
             let e = ends_soon newer window base still (record { known = omega (arith, from); since = omega (arith, from) }) i live n held lacked in
-            let top : called_at part ≡ called_at (window ++ base) = ap called_at is in
+            let top : time_of part ≡ time_of (window ++ base) = ap time_of is in
             absurd (omega (arith, e, soon, late, top)))
             (λ (g : Gains hosts terms.live window base). more g (before g.place g.name (whole ∙ sym (append_assoc newer window base)) from g.among
             (was_held hosts terms trace newer (window ++ base) g.place g.name all.session whole g.among g.held) g.lacked))
-            (gains hosts terms.live window base (λ j. held_once hosts (lines_of (window ++ base)) j)) where
+            (gains hosts terms.live window base (λ j. held_once hosts (window ++ base) j)) where
               whole : trace ≡ newer ++ (window ++ base)
-              whole = split ∙ ap (λ (t : List TimedLine). newer ++ t) is
+              whole = split ∙ ap (λ (t : List (At KeptLine)). newer ++ t) is
 
               lacked : holds (there hosts base i).host n ≡ false
-              lacked = lacked_before hosts window base i n (subst (λ (t : List TimedLine). holds (there hosts t i).host n ≡ false) is lacks)
+              lacked = lacked_before hosts window base i n (subst (λ (t : List (At KeptLine)). holds (there hosts t i).host n ≡ false) is lacks)
 
               x : Lack
               x = record { place = i; name = n }
@@ -265,14 +265,14 @@ module _ (hosts : ℕ → Opening) (terms : Terms) (trace : List TimedLine) (siz
               } where
                 -- those that were found before are held now
                 here : (y : Lack) → Contains f.lacks y → holds (there hosts part y.place).host y.name ≡ true
-                here y c = subst (λ (t : List TimedLine). holds (there hosts t y.place).host y.name ≡ true) (sym is) (⊎_elim
+                here y c = subst (λ (t : List (At KeptLine)). holds (there hosts t y.place).host y.name ≡ true) (sym is) (⊎_elim
                     (λ (same : y ≡ record { place = g.place; name = g.name }). subst (λ (z : Lack). holds (there hosts (window ++ base) z.place).host z.name ≡ true) (sym same) g.held)
                     (λ (h : holds (there hosts base y.place).host y.name ≡ true). held_on hosts window base y.place y.name h)
                     (f.then y c))
 
   all_hold : (n : NameValue) → IsHeldBySome hosts terms trace n → AllKeptHoldBehind hosts terms trace (whole_by terms sizes wait most) n
-  all_hold n held newer later i split lt live = by (holds (kept_at hosts (lines_of later) i).host n) refl where
-    by : (b : Bool) → holds (kept_at hosts (lines_of later) i).host n ≡ b → b ≡ true
+  all_hold n held newer later i split lt live = by (holds (kept_at hosts later i).host n) refl where
+    by : (b : Bool) → holds (kept_at hosts later i).host n ≡ b → b ≡ true
     by true e = refl
     by false e =
         let f = filled most newer later i n split (omega (arith, lt)) live held e in

@@ -14,7 +14,7 @@ use Rattle.wb_policy.specs.Choices.{told_names}
 use Rattle.wb_keeping.specs.Laws.{Added, Came, KeptLine, Ticked, Tuned, doing_of}
 use Rattle.wb_keeping.specs.Performing.{Keeping, after_doing}
 use Rattle.wb_kept_progress.specs.Sessions.{AreTaken, Opening}
-use Rattle.wb_kept_progress.specs.Timed.{TimedLine, lines_of}
+use Rattle.wb_kept_progress.specs.Timed.{At}
 use Rattle.wb_kept_progress.proofs.Moments.{IsTold, moment_of, told_itself}
 use Rattle.wb_kept_progress.specs.Whole.{IsHeldBySome, IsTimelySession, WasSentBy, there}
 use Rattle.wb_kept_progress.proofs.AskedInCalls.{AreTold, IsMore, asked_is, lines_by, more_differs}
@@ -36,38 +36,38 @@ named_by held me page marks n are c =
 
 -- ---- a session
 
-module _ (held_was : HeldWasHeld) (hosts : ℕ → Opening) (terms : Terms) (trace : List TimedLine) (session : IsTimelySession hosts terms trace) where
+module _ (held_was : HeldWasHeld) (hosts : ℕ → Opening) (terms : Terms) (trace : List (At KeptLine)) (session : IsTimelySession hosts terms trace) where
   abbrev IsSome : NameValue → Type 0
   IsSome n = IsHeldBySome hosts terms trace n
 
   -- what comes tells names that a live host held
-  module _ (newer older : List TimedLine) (e : TimedLine) (split : trace ≡ newer ++ e ∷ older) (late : settled_by terms < e.time) where
+  module _ (newer older : List (At KeptLine)) (e : At KeptLine) (split : trace ≡ newer ++ e ∷ older) (late : settled_by terms < e.time) where
     abbrev k : Keeping
-    k = there hosts older e.at.place
+    k = there hosts older e.place
 
     abbrev next : Keeping
-    next = there hosts (e ∷ older) e.at.place
+    next = there hosts (e ∷ older) e.place
 
     abbrev now : ℕ
-    now = moment_of e.at.line
+    now = moment_of e.event
 
-    next_is : next ≡ after_doing (doing_of e.at.line) k
-    next_is = moved hosts (lines_of older) e.at.place e.at.line
+    next_is : next ≡ after_doing (doing_of e.event) k
+    next_is = moved hosts older e.place e.event
 
     names_held : (v : Datagram) → WasSentBy hosts older e.time terms.delivery v → (page : PageId) (marks : List MarkValue) (me : ℕ)
         → ((number : ℕ) (held : List DrawopValue) → TellsHeld number held v → AreHeld held page marks) → (n : NameValue) → Contains (told_names me page marks) n
         → IsSome n
     names_held v was page marks me tells n c =
         let parted : trace ≡ (newer ++ e ∷ was.newer) ++ was.e ∷ was.before = split
-        ∙ ap (λ (t : List TimedLine). newer ++ e ∷ t) was.split ∙ sym (append_assoc newer (e ∷ was.newer) (was.e ∷ was.before)) in
-        let sender = there hosts was.before was.e.at.place in
-        let none = call_taken hosts (newer ++ e ∷ was.newer) was.before was.e (subst (λ (t : List TimedLine). AreTaken hosts (lines_of t)) parted session.taken) in
-        let told : TellsHeld sender.host.is.number (after_doing (doing_of was.e.at.line) sender).host.is.held v = call_tells was.e.at.line sender none v was.sent in
-        let behind : TellsHeld sender.host.is.number (there hosts (was.e ∷ was.before) was.e.at.place).host.is.held v =
-        subst (λ (m : Keeping). TellsHeld sender.host.is.number m.host.is.held v) (sym (moved hosts (lines_of was.before) was.e.at.place was.e.at.line)) told in
+        ∙ ap (λ (t : List (At KeptLine)). newer ++ e ∷ t) was.split ∙ sym (append_assoc newer (e ∷ was.newer) (was.e ∷ was.before)) in
+        let sender = there hosts was.before was.e.place in
+        let none = call_taken hosts (newer ++ e ∷ was.newer) was.before was.e (subst (λ (t : List (At KeptLine)). AreTaken hosts t) parted session.taken) in
+        let told : TellsHeld sender.host.is.number (after_doing (doing_of was.e.event) sender).host.is.held v = call_tells was.e.event sender none v was.sent in
+        let behind : TellsHeld sender.host.is.number (there hosts (was.e ∷ was.before) was.e.place).host.is.held v =
+        subst (λ (m : Keeping). TellsHeld sender.host.is.number m.host.is.held v) (sym (moved hosts was.before was.e.place was.e.event)) told in
         let live = session.alone (newer ++ e ∷ was.newer) was.before was.e parted (after_quiet was.e.time was.soon) in
-        held_was hosts terms trace (newer ++ e ∷ was.newer) (was.e ∷ was.before) was.e.at.place n session parted live
-        (named_by (there hosts (was.e ∷ was.before) was.e.at.place).host.is.held me page marks n (tells _ _ behind) c) where
+        held_was hosts terms trace (newer ++ e ∷ was.newer) (was.e ∷ was.before) was.e.place n session parted live
+        (named_by (there hosts (was.e ∷ was.before) was.e.place).host.is.held me page marks n (tells _ _ behind) c) where
           after_quiet : (then : ℕ) → e.time ≤ then + terms.delivery → terms.quiet < then
           after_quiet then soon = omega (arith, late, soon)
 
@@ -82,7 +82,7 @@ module _ (held_was : HeldWasHeld) (hosts : ℕ → Opening) (terms : Terms) (tra
     abbrev pub Goes : Type 0
     Goes = IsMore k next ⊎ IsCourse IsSome k now (does hosts e older) next
 
-    goes_by : (line : KeptLine) → e.at.line ≡ line → IsTold now line
+    goes_by : (line : KeptLine) → e.event ≡ line → IsTold now line
         → IsMore k (after_doing (doing_of line) k) ⊎ IsCourse IsSome k now (lines_by (doing_of line) k) (after_doing (doing_of line) k)
     goes_by (Came moment v) is told =
         subst (λ (t : ℕ). IsMore k (after_doing (doing_of (Came moment v)) k)
@@ -95,14 +95,14 @@ module _ (held_was : HeldWasHeld) (hosts : ℕ → Opening) (terms : Terms) (tra
 
     pub goes : Goes
     goes =
-        let g = goes_by e.at.line refl (told_itself e.at.line) in
+        let g = goes_by e.event refl (told_itself e.event) in
         subst (λ (m : Keeping). IsMore k m ⊎ IsCourse IsSome k now (does hosts e older) m) (sym next_is) g
 
 pub asks_have_cause : HeldWasHeld → AsksHaveCause
 asks_have_cause held_was hosts terms trace newer older e n session split late asked =
-    let k = there hosts older e.at.place in
-    let next = there hosts (e ∷ older) e.at.place in
-    let now = moment_of e.at.line in
+    let k = there hosts older e.place in
+    let next = there hosts (e ∷ older) e.place in
+    let now = moment_of e.event in
     ⊎_elim
     (λ (more : IsMore k next). inr (inr (more_differs k next more)))
     (λ (c : IsCourse (λ n. IsHeldBySome hosts terms trace n) k now (does hosts e older) next).

@@ -1,7 +1,6 @@
 -- Any number that one host holds and another lacks comes: a report has its top, which comes, and then it has its turn.
-use Rattle.std.proofs.Common.{◌≡◌, ℕ, suc, ◌+◌, ◌<◌, ◌≤◌, Bool, true, false, List, [], ◌∷◌, ◌++◌, ◌∙◌, None, ap, append_assoc, arith, eqb-true, inl, inr, leb-true, length, map, max, refl, subst, sym, true≢false}
-use Rattle.std.specs.Prelude.{◌⊎◌, ◌&&◌, ◌||◌, Contains, filter, nat_eq, nat_le, nat_lt, not}
-use Rattle.std.proofs.lemmas.Bool.Decides.{nat_tests}
+use Rattle.std.proofs.Common.{◌≡◌, ℕ, suc, ◌+◌, ◌<◌, ◌≤◌, Bool, true, false, List, [], ◌∷◌, ◌++◌, ◌∙◌, None, ap, append_assoc, arith, eqb-true, leb-true, length, max, refl, subst, sym, true≢false}
+use Rattle.std.specs.Prelude.{◌&&◌, ◌||◌, Contains, filter, nat_eq, nat_le, not}
 use Rattle.std.proofs.lemmas.List.Elements.{Contains-append_right}
 use Rattle.wb_names.specs.History.{IsHeld, highest, name_of}
 use Rattle.wb_names.specs.Orders.{same_name}
@@ -11,10 +10,9 @@ use Rattle.wb_names.proofs.Listings.{Contains-filter, Contains-here}
 use Rattle.wb_names.proofs.Orders.{same_name-is}
 use Rattle.wb_codec.specs.declared.datagram.Datagram.{Datagram}
 use Rattle.wb_codec.specs.declared.datagram.Datagram.TheVariants.{Session}
-use Rattle.wb_gaps.specs.Answers.{pages_of, report_of, sources_of, top_mark}
+use Rattle.wb_gaps.specs.Answers.{top_mark}
 use Rattle.wb_gaps.specs.Gaps.{IsMissing}
 use Rattle.wb_gaps.proofs.HeldNames.{held-by, held-from}
-use Rattle.wb_gaps.proofs.PageAnswers.{has_source, pages_of_history}
 use Rattle.wb_gaps.proofs.Reports.{greatest_held}
 use Rattle.wb_keeper.specs.Keeper.{holds}
 use Rattle.wb_keeper.proofs.KeptCalls.{holds_one_more}
@@ -23,12 +21,12 @@ use Rattle.wb_member.specs.Judged.{is_full}
 use Rattle.wb_member.specs.Opened.{Opened, asks_for, present}
 use Rattle.wb_policy.specs.Choices.{told_names}
 use Rattle.wb_keeping.specs.Kept.{came}
-use Rattle.wb_keeping.specs.Laws.{Came, fault_of}
+use Rattle.wb_keeping.specs.Laws.{Came, KeptLine, fault_of}
 use Rattle.wb_keeping.specs.Performing.{Keeping, after_doing}
 use Rattle.wb_policy.proofs.HeldTops.{below_top, page_there, top_held, top_told}
 use Rattle.wb_policy.proofs.Reporting.{each_mark_is_told}
 use Rattle.wb_kept_progress.specs.Repairs.{ComesToTell, HasCome, IsBrought, IsLost, LostCanCome, MarksComeToBeTold, host_at, repair}
-use Rattle.wb_kept_progress.specs.Sessions.{AreHosts, AreSent, AreTaken, LineAt, Opening, at, kept_at}
+use Rattle.wb_kept_progress.specs.Sessions.{AreHosts, AreSent, AreTaken, At, Opening, at, kept_at}
 use Rattle.wb_kept_progress.proofs.Hearing.{report_asks, report_holds}
 use Rattle.wb_kept_progress.proofs.Repairs.{asked_can_come, fine_at, idle, is_itself, moved, of_opening, places_differ, session_in_time}
 use Rattle.wb_kept_progress.proofs.Turning.{answers_at, brought_behind, by_turn, comes_to_tell, count_of, in_map, not_ours, others_stay, sent_both, some_ticks, ticks_sent}
@@ -80,14 +78,14 @@ has_room host lt = false_from_ne_true (nat_le host.is.cells (length host.is.held
 
 module _ (hosts : ℕ → Opening) (are : AreHosts hosts) where
   -- the board of a host has as many cells as ever
-  pub same_cells : (lines others : List LineAt) (i : ℕ) → (host_at hosts lines i).is.cells ≡ (host_at hosts others i).is.cells
+  pub same_cells : (lines others : List (At KeptLine)) (i : ℕ) → (host_at hosts lines i).is.cells ≡ (host_at hosts others i).is.cells
   same_cells lines others i = (of_opening hosts lines i).cells ∙ sym (of_opening hosts others i).cells
 
-  pub same_room : (lines others : List LineAt) (i : ℕ) → (host_at hosts lines i).is.held ≡ (host_at hosts others i).is.held → is_full (host_at hosts lines i) ≡ is_full (host_at hosts others i)
+  pub same_room : (lines others : List (At KeptLine)) (i : ℕ) → (host_at hosts lines i).is.held ≡ (host_at hosts others i).is.held → is_full (host_at hosts lines i) ≡ is_full (host_at hosts others i)
   same_room lines others i e = ap (λ (h : List DrawopValue). nat_le (host_at hosts lines i).is.cells (length h)) e ∙ ap (λ (c : ℕ). nat_le c (length (host_at hosts others i).is.held)) (same_cells lines others i)
 
   -- A drawop that is lost comes, where it is the top of its source at the one that holds it.
-  module _ (older : List LineAt) (i j : ℕ) (d : DrawopValue) (taken : AreTaken hosts older) (lost : IsLost hosts older i j d) (counted : 1 ≤ d.name.seq) (small : d.name.seq < 2147483648) (is_top : d.name.seq ≡ highest d.name.page d.name.source (host_at hosts older j).is.held) where
+  module _ (older : List (At KeptLine)) (i j : ℕ) (d : DrawopValue) (taken : AreTaken hosts older) (lost : IsLost hosts older i j d) (counted : 1 ≤ d.name.seq) (small : d.name.seq < 2147483648) (is_top : d.name.seq ≡ highest d.name.page d.name.source (host_at hosts older j).is.held) where
     abbrev k : Keeping
     k = kept_at hosts older i
 
@@ -106,7 +104,7 @@ module _ (hosts : ℕ → Opening) (are : AreHosts hosts) where
     abbrev count : ℕ
     count = suc (each_mark_is_told held_j (told_of (kept_at hosts older j).policy) n.page mark (page_there held_j d lost.held counted) (top_told held_j d lost.held counted)).0
 
-    abbrev ticks_j : List LineAt
+    abbrev ticks_j : List (At KeptLine)
     ticks_j = some_ticks hosts older j count
 
     told : ComesToTell hosts ticks_j older j n.page mark
@@ -114,7 +112,7 @@ module _ (hosts : ℕ → Opening) (are : AreHosts hosts) where
         let t = each_mark_is_told held_j (told_of (kept_at hosts older j).policy) n.page mark (page_there held_j d lost.held counted) (top_told held_j d lost.held counted) in
         comes_to_tell hosts older j n.page mark t.0 taken t.2 t.3
 
-    abbrev l1 : List LineAt
+    abbrev l1 : List (At KeptLine)
     l1 = ticks_j ++ older
 
     here_1 : kept_at hosts l1 i ≡ k
@@ -126,7 +124,7 @@ module _ (hosts : ℕ → Opening) (are : AreHosts hosts) where
     abbrev v : Datagram
     v = Session (host_at hosts older j).is.number told.moment n.page told.marks told.echoes
 
-    abbrev l2 : List LineAt
+    abbrev l2 : List (At KeptLine)
     l2 = at i (Came now v) ∷ l1
 
     late : present k.host + asking_wait ≤ now
@@ -176,37 +174,37 @@ module _ (hosts : ℕ → Opening) (are : AreHosts hosts) where
       sent_2 : AreSent hosts (at i (Came now v) ∷ ticks_j) older
       sent_2 = (told.sent, ticks_sent hosts older j count)
 
-      by_report : (newer : List LineAt) × IsBrought hosts newer older i j d
+      by_report : (newer : List (At KeptLine)) × IsBrought hosts newer older i j d
       by_report = (
         repair i j (host_at hosts l2 i) (host_at hosts l2 j) d ++ (at i (Came now v) ∷ ticks_j),
         brought_behind hosts (repair i j (host_at hosts l2 i) (host_at hosts l2 j) d) (at i (Came now v) ∷ ticks_j) older i j d sent_2 same_2 there_2 (asked_can_come hosts l2 i j d are taken_2 lost_2 asked_2),
       )
 
-    pub top_comes : (newer : List LineAt) × IsBrought hosts newer older i j d
+    pub top_comes : (newer : List (At KeptLine)) × IsBrought hosts newer older i j d
     top_comes = by (asks_for n k.host) refl where
-      by : (b : Bool) → asks_for n k.host ≡ b → (newer : List LineAt) × IsBrought hosts newer older i j d
+      by : (b : Bool) → asks_for n k.host ≡ b → (newer : List (At KeptLine)) × IsBrought hosts newer older i j d
       by true asked = (repair i j (host_at hosts older i) (host_at hosts older j) d, asked_can_come hosts older i j d are taken lost asked)
       by false none = by_report none
 
   -- ---- any of them
 
-  has_come : (newer older : List LineAt) (i j : ℕ) (d : DrawopValue) → IsBrought hosts newer older i j d → HasCome hosts newer older i d
+  has_come : (newer older : List (At KeptLine)) (i j : ℕ) (d : DrawopValue) → IsBrought hosts newer older i j d → HasCome hosts newer older i d
   has_come newer older i j d b = record {
     taken = b.taken;
     sent = b.sent;
     held = subst (λ (h : List DrawopValue). Contains h d) (sym b.held) (Contains-append_right (host_at hosts older i).is.held (d ∷ []) d (Contains-here d []));
   }
 
-  come_behind : (newer more older : List LineAt) (i : ℕ) (d : DrawopValue) → AreSent hosts more older → HasCome hosts newer (more ++ older) i d → HasCome hosts (newer ++ more) older i d
+  come_behind : (newer more older : List (At KeptLine)) (i : ℕ) (d : DrawopValue) → AreSent hosts more older → HasCome hosts newer (more ++ older) i d → HasCome hosts (newer ++ more) older i d
   come_behind newer more older i d sent c =
       let e = sym (append_assoc newer more older) in
       record {
         taken = subst (AreTaken hosts) e c.taken;
         sent = sent_both hosts more older newer c.sent sent;
-        held = subst (λ (lines : List LineAt). Contains (host_at hosts lines i).is.held d) e c.held;
+        held = subst (λ (lines : List (At KeptLine)). Contains (host_at hosts lines i).is.held d) e c.held;
       }
 
-  module _ (older : List LineAt) (i j : ℕ) (d : DrawopValue) (taken : AreTaken hosts older) (counted : 1 ≤ d.name.seq) (held : Contains (host_at hosts older j).is.held d) (lacks : holds (host_at hosts older i).is.held d.name ≡ false) (room : length (host_at hosts older i).is.held + 2 ≤ (host_at hosts older i).is.cells)
+  module _ (older : List (At KeptLine)) (i j : ℕ) (d : DrawopValue) (taken : AreTaken hosts older) (counted : 1 ≤ d.name.seq) (held : Contains (host_at hosts older j).is.held d) (lacks : holds (host_at hosts older i).is.held d.name ≡ false) (room : length (host_at hosts older i).is.held + 2 ≤ (host_at hosts older i).is.cells)
       (small : highest d.name.page d.name.source (host_at hosts older j).is.held < 2147483648) where
     abbrev page : PageId
     page = d.name.page
@@ -255,7 +253,7 @@ module _ (hosts : ℕ → Opening) (are : AreHosts hosts) where
     t_top = subst (λ (n : NameValue). n.seq ≡ highest n.page n.source (host_at hosts older j).is.held) (sym t_name) refl
 
     -- once the top is held, it has its turn
-    by_its_turn : (lines : List LineAt) → AreTaken hosts lines → IsLost hosts lines i j d → IsHeld (host_at hosts lines i).is.held page source top → (newer : List LineAt) × HasCome hosts newer lines i d
+    by_its_turn : (lines : List (At KeptLine)) → AreTaken hosts lines → IsLost hosts lines i j d → IsHeld (host_at hosts lines i).is.held page source top → (newer : List (At KeptLine)) × HasCome hosts newer lines i d
     by_its_turn lines taken_then lost_then top_then =
         let b = by_turn hosts lines i j d are taken_then lost_then (missing_below (host_at hosts lines i).is.held d.name top counted under lost_then.lost top_then) d_small in
         (b.0, has_come b.0 lines i j d b.1)
@@ -264,10 +262,10 @@ module _ (hosts : ℕ → Opening) (are : AreHosts hosts) where
       t_lost : IsLost hosts older i j t
       t_lost = record { held = t_held; lost = t_lacks; room = lost.room; known = not_ours t.name (host_at hosts older i) t_small }
 
-      abbrev first : (newer : List LineAt) × IsBrought hosts newer older i j t
+      abbrev first : (newer : List (At KeptLine)) × IsBrought hosts newer older i j t
       first = top_comes older i j t taken t_lost t_counted t_small t_top
 
-      abbrev more : List LineAt
+      abbrev more : List (At KeptLine)
       more = first.0
 
       b : IsBrought hosts more older i j t
@@ -295,17 +293,17 @@ module _ (hosts : ℕ → Opening) (are : AreHosts hosts) where
           let there : Contains (host_at hosts (more ++ older) i).is.held t = subst (λ (h : List DrawopValue). Contains h t) (sym b.held) (Contains-append_right held_i (t ∷ []) t (Contains-here t [])) in
           (there.0, t, there.1, there.2, t_name)
 
-      by_top : (newer : List LineAt) × HasCome hosts newer older i d
+      by_top : (newer : List (At KeptLine)) × HasCome hosts newer older i d
       by_top =
           let rest = by_its_turn (more ++ older) b.taken lost_then top_then in
           (rest.0 ++ more, come_behind rest.0 more older i d b.sent rest.1)
 
-    pub comes : (newer : List LineAt) × HasCome hosts newer older i d
+    pub comes : (newer : List (At KeptLine)) × HasCome hosts newer older i d
     comes = by (nat_eq d.name.seq top) refl (holds held_i t.name) refl where
-      same : d.name.seq ≡ top → (newer : List LineAt) × HasCome hosts newer older i d
+      same : d.name.seq ≡ top → (newer : List (At KeptLine)) × HasCome hosts newer older i d
       same e = let b = top_comes older i j d taken lost counted d_small e in (b.0, has_come b.0 older i j d b.1)
 
-      by : (b : Bool) → nat_eq d.name.seq top ≡ b → (h : Bool) → holds held_i t.name ≡ h → (newer : List LineAt) × HasCome hosts newer older i d
+      by : (b : Bool) → nat_eq d.name.seq top ≡ b → (h : Bool) → holds held_i t.name ≡ h → (newer : List (At KeptLine)) × HasCome hosts newer older i d
       by true e h f = same (eqb-true d.name.seq top e)
       by false e true f = by_its_turn older taken lost (held-by held_i page source top (ap (holds held_i) (sym t_name) ∙ f))
       by false e false f = by_top f (λ same. true≢false (sym (ap (nat_eq d.name.seq) (sym same) ∙ is_itself d.name.seq) ∙ e))

@@ -34,7 +34,7 @@ use Rattle.wb_policy.specs.declared.limits.TheConstants.{HEARD}
 use Rattle.wb_keeping.specs.Kept.{Calls}
 use Rattle.wb_keeping.specs.Performing.{after_line, after_lines}
 use Rattle.wb_kept_progress.specs.Sessions.{AreTaken, Opening}
-use Rattle.wb_kept_progress.specs.Timed.{Performed, Start, TellTimes, TimedLine, host_after, lines_of, performed, start_of}
+use Rattle.wb_kept_progress.specs.Timed.{At, Start, TellTimes, host_after, performed, start_of}
 use Rattle.wb_kept_progress.specs.Whole.{IsTimelySession, LiveHostsAreCounted, WasSentBy, there}
 use Rattle.wb_kept_progress.proofs.Begun.{ticks_keep}
 use Rattle.wb_kept_progress.proofs.CallLines.{lines_have_calls}
@@ -45,6 +45,8 @@ use Rattle.wb_kept_progress.proofs.Performed.{kept_keeps_moments}
 use Rattle.wb_kept_progress.proofs.PerLine.{IsMade, line_did}
 use Rattle.wb_kept_progress.proofs.ToldHeld.{call_tells}
 use Rattle.wb_kept_progress.proofs.WholeParts.{IsOfCall}
+use Rattle.wb_keeping.specs.Laws.{KeptLine}
+use Rattle.wb_member.specs.Lines.{Line}
 
 -- ---- echoes are of distinct senders
 
@@ -79,16 +81,16 @@ sources_apart p (e ∷ es) rising = by (p e) (sources_apart p es (sorted_tail ec
 -- ---- who is heard
 
 -- a line at a place with which a report was heard
-record WasHeardIn (hosts : ℕ → Start) (back : List Performed) (i source : ℕ) (h : Heard) : Type 0 where
-  front : List Performed
-  x : Performed
-  older : List Performed
+record WasHeardIn (hosts : ℕ → Start) (back : List (At Line)) (i source : ℕ) (h : Heard) : Type 0 where
+  front : List (At Line)
+  x : At Line
+  older : List (At Line)
   split : back ≡ front ++ x ∷ older
   place : x.place ≡ i
   page : PageId
   marks : List MarkValue
   told : List Echo
-  line : x.line ≡ Calls (calls.Hear (Session source h.sent page marks told))
+  line : x.event ≡ Calls (calls.Hear (Session source h.sent page marks told))
   moment : h.at ≡ present (host_after hosts older i)
   other : nat_eq source (hosts i).number ≡ false
 
@@ -100,9 +102,9 @@ module _ (hosts : ℕ → Start) (i source : ℕ) (h : Heard) where
   abbrev IsIts : KeeperCall → Type 0
   IsIts call = session_heard me call ≡ Some (source, h)
 
-  heard_now : (back : List Performed) (e : Performed) (call : KeeperCall) → e.place ≡ i → IsMade (host_after hosts back i) e.line call → IsIts call → WasHeardIn hosts (e ∷ back) i source h
+  heard_now : (back : List (At Line)) (e : At Line) (call : KeeperCall) → e.place ≡ i → IsMade (host_after hosts back i) e.event call → IsIts call → WasHeardIn hosts (e ∷ back) i source h
   heard_now back e (Hear now v word held) here made is = by v made.0 (is_own me v) refl is where
-    by : (v : Datagram) → e.line ≡ Calls (calls.Hear v) → (own : Bool) → is_own me v ≡ own → cond own None (session_in now v) ≡ Some (source, h) → WasHeardIn hosts (e ∷ back) i source h
+    by : (v : Datagram) → e.event ≡ Calls (calls.Hear v) → (own : Bool) → is_own me v ≡ own → cond own None (session_in now v) ≡ Some (source, h) → WasHeardIn hosts (e ∷ back) i source h
     by v line true own is = absurd (none-some (source, h) is)
     by (Draw d) line false apart is = absurd (none-some (source, h) is)
     by (Session sender sent page marks told) line false apart is = record {
@@ -137,12 +139,12 @@ module _ (hosts : ℕ → Start) (i source : ℕ) (h : Heard) where
   heard_now back e (Report now) here made is = absurd (none-some _ is)
   heard_now back e (GiveUp now name asked) here made is = absurd (none-some _ is)
 
-  heard_before : (e : Performed) (back : List Performed) → WasHeardIn hosts back i source h → WasHeardIn hosts (e ∷ back) i source h
+  heard_before : (e : At Line) (back : List (At Line)) → WasHeardIn hosts back i source h → WasHeardIn hosts (e ∷ back) i source h
   heard_before e back w = record {
     front = e ∷ w.front;
     x = w.x;
     older = w.older;
-    split = ap (λ (t : List Performed). e ∷ t) w.split;
+    split = ap (λ (t : List (At Line)). e ∷ t) w.split;
     place = w.place;
     page = w.page;
     marks = w.marks;
@@ -156,7 +158,7 @@ module _ (hosts : ℕ → Start) (i source : ℕ) (h : Heard) where
   abbrev HeardNobody : Opened → Type 0
   HeardNobody host = (call : KeeperCall) → Contains host.is.calls call → IsIts call → ⊥
 
-  heard_in : (back : List Performed) (call : KeeperCall) → Contains (host_after hosts back i).is.calls call → IsIts call → WasHeardIn hosts back i source h
+  heard_in : (back : List (At Line)) (call : KeeperCall) → Contains (host_after hosts back i).is.calls call → IsIts call → WasHeardIn hosts back i source h
   heard_in [] call c is = absurd (ticks_keep (HeardNobody) silent (hosts i).moments (opened_with (hosts i).constants (hosts i).number (hosts i).cells (hosts i).seed) (λ call c is. Contains-none call c) call c is) where
     silent : (now : ℕ) (host : Opened) → HeardNobody host → HeardNobody (after_line (Calls (calls.Tick now)) host)
     silent now host none call c is = ⊎_elim
@@ -167,19 +169,19 @@ module _ (hosts : ℕ → Start) (i source : ℕ) (h : Heard) where
     host : Opened
     host = host_after hosts back i
 
-    by : (Contains host.is.calls call → IsIts call → WasHeardIn hosts back i source h) → (b : Bool) → nat_eq e.place i ≡ b → Contains (cond b (after_line e.line host) host).is.calls call → WasHeardIn hosts (e ∷ back) i source h
+    by : (Contains host.is.calls call → IsIts call → WasHeardIn hosts back i source h) → (b : Bool) → nat_eq e.place i ≡ b → Contains (cond b (after_line e.event host) host).is.calls call → WasHeardIn hosts (e ∷ back) i source h
     by before false other c = heard_before e back (before c is)
     by before true same c = ⊎_elim
-        (λ (as_before : (after_line e.line host).is.calls ≡ host.is.calls). heard_before e back (before (subst (λ (calls : List KeeperCall). Contains calls call) as_before c) is))
-        (λ (new : (one : KeeperCall) × ((after_line e.line host).is.calls ≡ one ∷ host.is.calls) × IsMade host e.line one). ⊎_elim
-        (λ (it : new.0 ≡ call). heard_now back e call (eqb-true e.place i same) (subst (IsMade host e.line) it new.2) is)
+        (λ (as_before : (after_line e.event host).is.calls ≡ host.is.calls). heard_before e back (before (subst (λ (calls : List KeeperCall). Contains calls call) as_before c) is))
+        (λ (new : (one : KeeperCall) × ((after_line e.event host).is.calls ≡ one ∷ host.is.calls) × IsMade host e.event one). ⊎_elim
+        (λ (it : new.0 ≡ call). heard_now back e call (eqb-true e.place i same) (subst (IsMade host e.event) it new.2) is)
         (λ (d : Contains host.is.calls call). heard_before e back (before d is))
         (Contains-cases new.0 call host.is.calls (subst (λ (calls : List KeeperCall). Contains calls call) new.1 c)))
-        (line_did e.line host)
+        (line_did e.event host)
 
 -- ---- in a session
 
-module _ (hosts : ℕ → Opening) (terms : Terms) (trace newer older : List TimedLine) (i : ℕ) (s : IsTimelySession hosts terms trace)
+module _ (hosts : ℕ → Opening) (terms : Terms) (trace newer older : List (At KeptLine)) (i : ℕ) (s : IsTimelySession hosts terms trace)
     (split : trace ≡ newer ++ older) (live : Contains terms.live i) where
   abbrev starts : ℕ → Start
   starts j = start_of (hosts j)
@@ -195,25 +197,25 @@ module _ (hosts : ℕ → Opening) (terms : Terms) (trace newer older : List Tim
   of_live j c = Contains-map (λ (j : ℕ). (hosts j).number) terms.live (hosts j).number (c.0, j, c.1, c.2, refl)
 
   -- whoever sent a report that was handed in late is live
-  sender_lives : (front calls : List TimedLine) (time sender sent : ℕ) (page : PageId) (marks : List MarkValue) (told : List Echo) → trace ≡ front ++ calls → settled_by terms < time
+  sender_lives : (front calls : List (At KeptLine)) (time sender sent : ℕ) (page : PageId) (marks : List MarkValue) (told : List Echo) → trace ≡ front ++ calls → settled_by terms < time
       → WasSentBy hosts calls time terms.delivery (Session sender sent page marks told) → IsOfLive sender
   sender_lives front calls time sender sent page marks told is late w =
-      let whole : trace ≡ (front ++ w.newer) ++ w.e ∷ w.before = is ∙ ap (λ (t : List TimedLine). front ++ t) w.split ∙ sym (append_assoc front w.newer (w.e ∷ w.before)) in
+      let whole : trace ≡ (front ++ w.newer) ++ w.e ∷ w.before = is ∙ ap (λ (t : List (At KeptLine)). front ++ t) w.split ∙ sym (append_assoc front w.newer (w.e ∷ w.before)) in
       let soon = w.soon in
-      let j = w.e.at.place in
-      let taken = taken_of hosts (front ++ w.newer) (w.e ∷ w.before) (subst (λ (t : List TimedLine). AreTaken hosts (lines_of t)) whole s.taken) in
-      subst IsOfLive (sym ((call_tells w.e.at.line (there hosts w.before j) taken.0 (Session sender sent page marks told) w.sent).0 ∙ number_is hosts w.before j))
+      let j = w.e.place in
+      let taken = taken_of hosts (front ++ w.newer) (w.e ∷ w.before) (subst (λ (t : List (At KeptLine)). AreTaken hosts t) whole s.taken) in
+      subst IsOfLive (sym ((call_tells w.e.event (there hosts w.before j) taken.0 (Session sender sent page marks told) w.sent).0 ∙ number_is hosts w.before j))
       (of_live j (s.alone (front ++ w.newer) w.before w.e whole (omega (arith, late, soon))))
 
   -- a report that was heard late is one of a live host
   heard_late : (source : ℕ) (h : Heard) → WasHeardIn starts (performed hosts older) i source h → settled_by terms < h.at + terms.lag i → IsOfLive source
   heard_late source h w late =
       let c : IsOfCall hosts older w.x w.older = lines_have_calls hosts older w.front w.x w.older w.split in
-      let k = there hosts c.older c.e.at.place in
+      let k = there hosts c.older c.e.place in
       let host_before = after_lines c.before k.host in
-      let line : IsLineOf c.e.at.line k.host host_before (Calls (calls.Hear (Session source h.sent w.page w.marks w.told))) =
-      subst (IsLineOf c.e.at.line k.host host_before) w.line (one_of_lines c.e.at.line k.host k.host c.before c.later w.x.line (subst (AreLinesOf c.e.at.line k.host k.host) c.lines (lines_of_call c.e.at.line k))) in
-      let whole : trace ≡ (newer ++ c.newer) ++ c.e ∷ c.older = split ∙ ap (λ (t : List TimedLine). newer ++ t) c.split ∙ sym (append_assoc newer c.newer (c.e ∷ c.older)) in
+      let line : IsLineOf c.e.event k.host host_before (Calls (calls.Hear (Session source h.sent w.page w.marks w.told))) =
+      subst (IsLineOf c.e.event k.host host_before) w.line (one_of_lines c.e.event k.host k.host c.before c.later w.x.event (subst (AreLinesOf c.e.event k.host k.host) c.lines (lines_of_call c.e.event k))) in
+      let whole : trace ≡ (newer ++ c.newer) ++ c.e ∷ c.older = split ∙ ap (λ (t : List (At KeptLine)). newer ++ t) c.split ∙ sym (append_assoc newer c.newer (c.e ∷ c.older)) in
       let at = (kept_keeps_moments hosts terms older (tells_of terms newer older (subst (TellTimes terms) split s.times))).behind w.front w.older w.x _ w.split (subst (Contains terms.live) (sym w.place) live) w.line in
       let ahead = at.not_ahead in
       let then : settled_by terms < c.e.time = later _ _ _ _ _ _ ahead (w.moment ∙ ap (λ (j : ℕ). present (host_after starts w.older j)) (sym w.place)) (ap terms.lag w.place) c.time late in

@@ -7,26 +7,26 @@ use Rattle.wb_member.specs.declared.calls.Call.TheVariants.{Ask}
 use Rattle.wb_keeping.specs.Bounds.{ask_count}
 use Rattle.wb_keeping.specs.Kept.{Calls}
 use Rattle.wb_kept_progress.specs.Sessions.{Opening}
-use Rattle.wb_kept_progress.specs.Timed.{TimedLine, called_at}
-use Rattle.wb_kept_progress.specs.Whole.{AreCalledInOrder, request_span}
+use Rattle.wb_kept_progress.specs.Timed.{AreInOrder, At, time_of}
+use Rattle.wb_kept_progress.specs.Whole.{request_span}
 use Rattle.wb_kept_progress.proofs.CallLines.{among_call, lines_have_calls}
-use Rattle.wb_kept_progress.proofs.CallParts.{calls_order}
 use Rattle.wb_kept_progress.proofs.Crowds.{IsAskedFor, IsCrowd}
 use Rattle.wb_kept_progress.proofs.Handed.{asks_at_least, performs_in, stands_in}
-use Rattle.wb_progress.proofs.Parts.{tails}
+use Rattle.wb_progress.proofs.Parts.{in_past, order_of, tails}
 use Rattle.wb_kept_progress.proofs.WholeParts.{IsOfCall, does}
-use Rattle.wb_kept_progress.proofs.WindowParts.{calls_past, in_window}
+use Rattle.wb_kept_progress.proofs.WindowParts.{in_window}
+use Rattle.wb_keeping.specs.Laws.{KeptLine}
 
 -- what comes before the newest call
-pub before_newest : (front : List TimedLine) (e y : TimedLine) (part rest : List TimedLine) → e ∷ part ≡ front ++ y ∷ rest → y.time < e.time → (more : List TimedLine) × (part ≡ more ++ y ∷ rest)
-before_newest [] e y part rest same lt = let is : e.time ≡ y.time = ap called_at same in absurd (omega (arith, is, lt))
+pub before_newest : (front : List (At KeptLine)) (e y : At KeptLine) (part rest : List (At KeptLine)) → e ∷ part ≡ front ++ y ∷ rest → y.time < e.time → (more : List (At KeptLine)) × (part ≡ more ++ y ∷ rest)
+before_newest [] e y part rest same lt = let is : e.time ≡ y.time = ap time_of same in absurd (omega (arith, is, lt))
 before_newest (z ∷ front) e y part rest same lt = (front, tails e z part (front ++ y ∷ rest) same)
 
-module _ (hosts : ℕ → Opening) (terms : Terms) (trace newer window base : List TimedLine) (e : TimedLine) (i time : ℕ) (order : AreCalledInOrder trace) (split : trace ≡ newer ++ e ∷ (window ++ base)) (begins : called_at base + request_span terms < time)
+module _ (hosts : ℕ → Opening) (terms : Terms) (trace newer window base : List (At KeptLine)) (e : At KeptLine) (i time : ℕ) (order : AreInOrder trace) (split : trace ≡ newer ++ e ∷ (window ++ base)) (begins : time_of base + request_span terms < time)
     (quiet : terms.quiet + request_span terms < time) (ends : time < e.time) where
   asked_in : (m : NameValue) → IsAskedFor hosts terms trace i time m → Contains (performs_in hosts i window base) (Calls (Ask m))
   asked_in m x = of_call (lines_have_calls hosts trace x.newer x.y x.older x.split) where
-    after : called_at base < x.y.time
+    after : time_of base < x.y.time
     after = let s = x.since in omega (arith, s, begins, quiet)
 
     before : x.y.time < e.time
@@ -35,13 +35,13 @@ module _ (hosts : ℕ → Opening) (terms : Terms) (trace newer window base : Li
     of_call : IsOfCall hosts trace x.y x.older → Contains (performs_in hosts i window base) (Calls (Ask m))
     of_call d =
         let is = d.time in
-        let w = calls_past newer (e ∷ (window ++ base)) d.newer (d.e ∷ d.older) (sym split ∙ d.split) (subst AreCalledInOrder split order) (omega (arith, is, before)) in
+        let w = in_past newer (e ∷ (window ++ base)) d.newer (d.e ∷ d.older) (sym split ∙ d.split) (subst AreInOrder split order) (omega (arith, is, before)) in
         let y = before_newest w.0 e d.e (window ++ base) d.older w.1 (omega (arith, is, before)) in
         let upto : trace ≡ (newer ++ e ∷ []) ++ (window ++ base) = split ∙ sym (append_assoc newer (e ∷ []) (window ++ base)) in
-        let v = in_window window base y.0 d.older d.e y.1 (calls_order (newer ++ e ∷ []) (window ++ base) (subst AreCalledInOrder upto order)) (let t = after in omega (arith, t, is)) in
+        let v = in_window window base y.0 d.older d.e y.1 (order_of (newer ++ e ∷ []) (window ++ base) (subst AreInOrder upto order)) (let t = after in omega (arith, t, is)) in
         let asks = subst (Contains (does hosts d.e d.older)) x.line (among_call hosts trace x.y x.older d) in
-        subst (λ (l : List TimedLine). Contains (performs_in hosts i l base) (Calls (Ask m))) (sym v.window_is)
-        (stands_in hosts i y.0 v.part base d.e (Calls (Ask m)) (sym d.place ∙ x.place) (subst (λ (l : List TimedLine). Contains (does hosts d.e l) (Calls (Ask m))) v.older_is asks))
+        subst (λ (l : List (At KeptLine)). Contains (performs_in hosts i l base) (Calls (Ask m))) (sym v.window_is)
+        (stands_in hosts i y.0 v.part base d.e (Calls (Ask m)) (sym d.place ∙ x.place) (subst (λ (l : List (At KeptLine)). Contains (does hosts d.e l) (Calls (Ask m))) v.older_is asks))
 
   pub crowd_asks : IsCrowd hosts terms trace i time → 64 ≤ ask_count (performs_in hosts i window base)
   crowd_asks x =

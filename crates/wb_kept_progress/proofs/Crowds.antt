@@ -20,38 +20,40 @@ use Rattle.wb_policy.specs.Wanting.{oldest}
 use Rattle.wb_policy.specs.declared.wanting.AskedName.{AskedName}
 use Rattle.wb_kept_progress.specs.Promises.{host_then, timer_then}
 use Rattle.wb_kept_progress.specs.Sessions.{Opening}
-use Rattle.wb_kept_progress.specs.Timed.{AreInOrder, IsTimely, Performed, Start, TimedLine, performed, start_of}
+use Rattle.wb_kept_progress.specs.Timed.{AreInOrder, At, IsTimely, Start, performed, start_of}
 use Rattle.wb_kept_progress.specs.Whole.{IsTimelySession, request_span}
 use Rattle.wb_kept_progress.proofs.AskedSince.{WasAsked, was_asked_before}
 use Rattle.wb_kept_progress.proofs.CallLines.{lines_have_calls}
 use Rattle.wb_kept_progress.proofs.StopCauses.{stops_have_cause}
-use Rattle.wb_kept_progress.proofs.Timely.{order_of}
 use Rattle.wb_kept_progress.proofs.WindowParts.{line_by}
 use Rattle.wb_kept_progress.proofs.YoungestAsked.{Others, new_level, new_timer, others}
+use Rattle.wb_keeping.specs.Laws.{KeptLine}
+use Rattle.wb_member.specs.Lines.{Line}
+use Rattle.wb_progress.proofs.Parts.{order_of}
 
 pub none_below : (n : NameValue) → name_cmp n n ≡ Less → ⊥
 none_below n e = less_greater (sym e ∙ name_total.antisymm n n ∙ ap ordering_reverse e)
 
 -- a line at a place asks for a name, so shortly before a time
-pub record IsAskedFor (hosts : ℕ → Opening) (terms : Terms) (trace : List TimedLine) (i time : ℕ) (m : NameValue) : Type 0 where
-  pub newer : List Performed
-  pub y : Performed
-  pub older : List Performed
+pub record IsAskedFor (hosts : ℕ → Opening) (terms : Terms) (trace : List (At KeptLine)) (i time : ℕ) (m : NameValue) : Type 0 where
+  pub newer : List (At Line)
+  pub y : At Line
+  pub older : List (At Line)
   pub split : performed hosts trace ≡ newer ++ y ∷ older
   pub place : y.place ≡ i
-  pub line : y.line ≡ Calls (Ask m)
+  pub line : y.event ≡ Calls (Ask m)
   pub since : time ≤ max y.time terms.quiet + request_span terms
   pub before : y.time ≤ time
 
 -- so are 64 names
-pub record IsCrowd (hosts : ℕ → Opening) (terms : Terms) (trace : List TimedLine) (i time : ℕ) : Type 0 where
+pub record IsCrowd (hosts : ℕ → Opening) (terms : Terms) (trace : List (At KeptLine)) (i time : ℕ) : Type 0 where
   pub names : List NameValue
   pub apart : AreApart names
   pub many : 64 ≤ length names
   pub asked : (m : NameValue) → Contains names m → IsAskedFor hosts terms trace i time m
 
-module _ (hosts : ℕ → Opening) (terms : Terms) (trace : List TimedLine) (i : ℕ) (session : IsTimelySession hosts terms trace) (timely : IsTimely (λ j. start_of (hosts j)) terms (performed hosts trace)) (live : Contains terms.live i)
-    (front back : List Performed) (x : Performed) (split : performed hosts trace ≡ front ++ x ∷ back) (late : terms.quiet < x.time) where
+module _ (hosts : ℕ → Opening) (terms : Terms) (trace : List (At KeptLine)) (i : ℕ) (session : IsTimelySession hosts terms trace) (timely : IsTimely (λ j. start_of (hosts j)) terms (performed hosts trace)) (live : Contains terms.live i)
+    (front back : List (At Line)) (x : At Line) (split : performed hosts trace ≡ front ++ x ∷ back) (late : terms.quiet < x.time) where
   abbrev starts : ℕ → Start
   starts j = start_of (hosts j)
 
@@ -74,14 +76,14 @@ module _ (hosts : ℕ → Opening) (terms : Terms) (trace : List TimedLine) (i :
         newer = (front ++ x ∷ []) ++ w.newer;
         y = w.x;
         older = w.older;
-        split = before_it ∙ ap (λ (l : List Performed). (front ++ x ∷ []) ++ l) w.split ∙ sym (append_assoc (front ++ x ∷ []) w.newer (w.x ∷ w.older));
+        split = before_it ∙ ap (λ (l : List (At Line)). (front ++ x ∷ []) ++ l) w.split ∙ sym (append_assoc (front ++ x ∷ []) w.newer (w.x ∷ w.older));
         place = w.place;
         line = w.line;
         since = omega (arith, soon, due);
         before = omega (arith, by, first);
       }
 
-  module _ (n : NameValue) (ask : AskTimer) (place : x.place ≡ i) (line : x.line ≡ Calls (Stop n)) (stands : timer_then hosts back i n ≡ Some ask) (new : ask.level ≡ 0) where
+  module _ (n : NameValue) (ask : AskTimer) (place : x.place ≡ i) (line : x.event ≡ Calls (Stop n)) (stands : timer_then hosts back i n ≡ Some ask) (new : ask.level ≡ 0) where
     abbrev Stopped : ℕ → Type 0
     Stopped p = ((a : AskTimer) × (timer_then hosts back p n ≡ Some a) × (4 ≤ a.level))
         ⊎ ((64 ≤ length (view_of (host_then hosts back p)).asked) × (a : AskedName) × (oldest (view_of (host_then hosts back p)).asked ≡ Some a) × (a.name ≡ n))

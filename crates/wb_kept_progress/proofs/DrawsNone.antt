@@ -11,12 +11,12 @@ use Rattle.wb_keeping.specs.Kept.{Line, Says}
 use Rattle.wb_keeping.specs.Laws.{KeptLine, doing_of, expand}
 use Rattle.wb_keeping.specs.Performing.{Keeping, after_doing, after_line, sees}
 use Rattle.wb_kept_progress.specs.Sessions.{Opening}
-use Rattle.wb_kept_progress.specs.Timed.{TimedLine, called_at}
-use Rattle.wb_kept_progress.specs.Whole.{AreCalledInOrder, IsTimelySession, there}
-use Rattle.wb_kept_progress.proofs.CallParts.{calls_end}
+use Rattle.wb_kept_progress.specs.Timed.{AreInOrder, At, time_of}
+use Rattle.wb_kept_progress.specs.Whole.{IsTimelySession, there}
 use Rattle.wb_kept_progress.proofs.FirstLines.{AreLinesOf, IsLineOf, lines_of_call}
 use Rattle.wb_kept_progress.proofs.Handed.{handed, performs_in}
 use Rattle.wb_kept_progress.proofs.TurnsApart.{DrawsNothing}
+use Rattle.wb_progress.proofs.Parts.{before_end}
 
 -- ---- lines
 
@@ -42,48 +42,48 @@ all_draw_none (call ∷ calls) k none d c =
 
 -- ---- calls
 
-abbrev pub NoneDraws : List TimedLine → Type 0
+abbrev pub NoneDraws : List (At KeptLine) → Type 0
 NoneDraws [] = Unit {0}
-NoneDraws (e ∷ calls) = DrawsNothing e.at.line × NoneDraws calls
+NoneDraws (e ∷ calls) = DrawsNothing e.event × NoneDraws calls
 
-handed_draw_none : (i : ℕ) (calls : List TimedLine) → NoneDraws calls → (line : KeptLine) → Contains (handed i calls) line → DrawsNothing line
+handed_draw_none : (i : ℕ) (calls : List (At KeptLine)) → NoneDraws calls → (line : KeptLine) → Contains (handed i calls) line → DrawsNothing line
 handed_draw_none i [] none line c = absurd (Contains-none line c)
-handed_draw_none i (e ∷ calls) none line c = by (nat_eq e.at.place i) (handed_draw_none i calls none.1 line) c where
-  by : (b : Bool) → (Contains (handed i calls) line → DrawsNothing line) → Contains (cond b (handed i calls ++ e.at.line ∷ []) (handed i calls)) line → DrawsNothing line
+handed_draw_none i (e ∷ calls) none line c = by (nat_eq e.place i) (handed_draw_none i calls none.1 line) c where
+  by : (b : Bool) → (Contains (handed i calls) line → DrawsNothing line) → Contains (cond b (handed i calls ++ e.event ∷ []) (handed i calls)) line → DrawsNothing line
   by false rest c = rest c
   by true rest c = ⊎_elim
       (λ (older : Contains (handed i calls) line). rest older)
-      (λ (one : Contains (e.at.line ∷ []) line). ⊎_elim
-      (λ (is : e.at.line ≡ line). subst DrawsNothing is none.0)
+      (λ (one : Contains (e.event ∷ []) line). ⊎_elim
+      (λ (is : e.event ≡ line). subst DrawsNothing is none.0)
       (λ (other : Contains [] line). absurd (Contains-none line other))
-      (Contains-cases e.at.line line [] one))
-      (Contains-append_cases (handed i calls) (e.at.line ∷ []) line c)
+      (Contains-cases e.event line [] one))
+      (Contains-append_cases (handed i calls) (e.event ∷ []) line c)
 
-pub performs_no_drawing : (hosts : ℕ → Opening) (i : ℕ) (calls base : List TimedLine) → NoneDraws calls → HasNoDrawing (performs_in hosts i calls base)
+pub performs_no_drawing : (hosts : ℕ → Opening) (i : ℕ) (calls base : List (At KeptLine)) → NoneDraws calls → HasNoDrawing (performs_in hosts i calls base)
 performs_no_drawing hosts i calls base none = all_draw_none (handed i calls) (there hosts base i) (handed_draw_none i calls none)
 
 -- ---- once nobody draws any more
 
-module _ (hosts : ℕ → Opening) (terms : Terms) (trace : List TimedLine) (session : IsTimelySession hosts terms trace) where
-  abbrev pub AreLate : List TimedLine → Type 0
+module _ (hosts : ℕ → Opening) (terms : Terms) (trace : List (At KeptLine)) (session : IsTimelySession hosts terms trace) where
+  abbrev pub AreLate : List (At KeptLine) → Type 0
   AreLate [] = Unit {0}
   AreLate (e ∷ calls) = (terms.quiet < e.time) × AreLate calls
 
-  pub late_behind : (calls base : List TimedLine) → AreCalledInOrder (calls ++ base) → terms.quiet < called_at base → AreLate calls
+  pub late_behind : (calls base : List (At KeptLine)) → AreInOrder (calls ++ base) → terms.quiet < time_of base → AreLate calls
   late_behind [] base order late = tt
   late_behind (e ∷ calls) base order late =
       let o = order.0 in
-      let ends = calls_end calls base order.1 in
+      let ends = before_end calls base order.1 in
       (omega (arith, o, ends, late), late_behind calls base order.1 late)
 
-  pub late_from : (calls base : List TimedLine) (first : TimedLine) → AreCalledInOrder (calls ++ first ∷ base) → terms.quiet < first.time → AreLate (calls ++ first ∷ [])
+  pub late_from : (calls base : List (At KeptLine)) (first : At KeptLine) → AreInOrder (calls ++ first ∷ base) → terms.quiet < first.time → AreLate (calls ++ first ∷ [])
   late_from [] base first order late = (late, tt)
   late_from (e ∷ calls) base first order late =
       let o = order.0 in
-      let ends = calls_end calls (first ∷ base) order.1 in
+      let ends = before_end calls (first ∷ base) order.1 in
       (omega (arith, o, ends, late), late_from calls base first order.1 late)
 
-  pub none_draws : (newer calls base : List TimedLine) → trace ≡ newer ++ (calls ++ base) → AreLate calls → NoneDraws calls
+  pub none_draws : (newer calls base : List (At KeptLine)) → trace ≡ newer ++ (calls ++ base) → AreLate calls → NoneDraws calls
   none_draws newer [] base split late = tt
   none_draws newer (e ∷ calls) base split late = (
     λ now page time op. session.drawn newer (calls ++ base) e now page time op split late.0,

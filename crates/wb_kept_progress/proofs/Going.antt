@@ -24,7 +24,7 @@ use Rattle.wb_policy.specs.Wanting.{is_wanted}
 use Rattle.wb_keeping.proofs.EachStep.{HoldsOfSteps, line_holds}
 use Rattle.wb_keeping.proofs.Performed.{after_both}
 use Rattle.wb_keeping.proofs.Wanted.{lines_wanted}
-use Rattle.wb_kept_progress.specs.Sessions.{AreHosts, AreTaken, DoNotGoBack, LineAt, Opening, kept_at}
+use Rattle.wb_kept_progress.specs.Sessions.{AreHosts, AreTaken, At, DoNotGoBack, Opening, kept_at}
 use Rattle.wb_kept_progress.proofs.Lines.{IsSmall}
 use Rattle.wb_keeping.proofs.EachLine.{Each, states_each, wanted_each}
 
@@ -151,13 +151,13 @@ opening_goes (moment ∷ moments) host now e on is = opening_goes moments (after
 first_near : FIRST_DELAY ≤ 1000000
 first_near = omega arith
 
-pub kept_goes : (hosts : ℕ → Opening) → AreHosts hosts → (lines : List LineAt) → AreTaken hosts lines → (i : ℕ) → Goes (kept_at hosts lines i)
+pub kept_goes : (hosts : ℕ → Opening) → AreHosts hosts → (lines : List (At KeptLine)) → AreTaken hosts lines → (i : ℕ) → Goes (kept_at hosts lines i)
 kept_goes hosts are [] taken i =
     let o = hosts i in
     record { orderly = opening_goes o.moments (opened_with o.constants o.number o.cells o.seed) 0 refl (are.moments i) tt; near = first_near }
 kept_goes hosts are (e ∷ older) taken i = by (kept_goes hosts are older taken.1 i) (nat_eq e.place i) refl where
-  by : Goes (kept_at hosts older i) → (b : Bool) → nat_eq e.place i ≡ b → Goes (cond b (after_doing (doing_of e.line) (kept_at hosts older i)) (kept_at hosts older i))
+  by : Goes (kept_at hosts older i) → (b : Bool) → nat_eq e.place i ≡ b → Goes (cond b (after_doing (doing_of e.event) (kept_at hosts older i)) (kept_at hosts older i))
   by goes false other = goes
   by goes true same =
       let at_i = eqb-true e.place i same in
-      line_goes e.line (kept_at hosts older i) (subst (λ (k : ℕ). fault_of e.line (kept_at hosts older k) ≡ None) at_i taken.0) goes
+      line_goes e.event (kept_at hosts older i) (subst (λ (k : ℕ). fault_of e.event (kept_at hosts older k) ≡ None) at_i taken.0) goes

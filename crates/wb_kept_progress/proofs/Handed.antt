@@ -12,7 +12,7 @@ use Rattle.wb_keeping.specs.Laws.{AreTaken, KeptLine, after_kept, doing_of, expa
 use Rattle.wb_keeping.specs.Performing.{Keeping, after_doing, sees}
 use Rattle.wb_kept_progress.specs.Sessions as sessions
 use Rattle.wb_kept_progress.specs.Sessions.{Opening}
-use Rattle.wb_kept_progress.specs.Timed.{TimedLine, lines_of}
+use Rattle.wb_kept_progress.specs.Timed.{At}
 use Rattle.wb_kept_progress.specs.Whole.{there}
 use Rattle.wb_kept_progress.proofs.Named.{count, count_more, filter_fewer, for_itself, is_for, names_by_all, one_if, sum_of}
 use Rattle.wb_kept_progress.proofs.WholeParts.{does}
@@ -76,49 +76,49 @@ kept_both (line ∷ one) other k = kept_both one other (after_doing (doing_of li
 -- ---- one place
 
 -- the lines of calls at a place, the oldest first
-abbrev pub handed : ℕ → List TimedLine → List KeptLine
+abbrev pub handed : ℕ → List (At KeptLine) → List KeptLine
 handed i [] = []
-handed i (e ∷ calls) = cond (nat_eq e.at.place i) (handed i calls ++ e.at.line ∷ []) (handed i calls)
+handed i (e ∷ calls) = cond (nat_eq e.place i) (handed i calls ++ e.event ∷ []) (handed i calls)
 
-handed_both : (i : ℕ) (one other : List TimedLine) → handed i (one ++ other) ≡ handed i other ++ handed i one
+handed_both : (i : ℕ) (one other : List (At KeptLine)) → handed i (one ++ other) ≡ handed i other ++ handed i one
 handed_both i [] other = sym (append-nil (handed i other))
-handed_both i (e ∷ one) other = by (nat_eq e.at.place i) (handed_both i one other) where
+handed_both i (e ∷ one) other = by (nat_eq e.place i) (handed_both i one other) where
   by : (b : Bool) → handed i (one ++ other) ≡ handed i other ++ handed i one
-      → cond b (handed i (one ++ other) ++ e.at.line ∷ []) (handed i (one ++ other)) ≡ handed i other ++ cond b (handed i one ++ e.at.line ∷ []) (handed i one)
-  by true rest = ap (λ (ls : List KeptLine). ls ++ e.at.line ∷ []) rest ∙ append_assoc (handed i other) (handed i one) (e.at.line ∷ [])
+      → cond b (handed i (one ++ other) ++ e.event ∷ []) (handed i (one ++ other)) ≡ handed i other ++ cond b (handed i one ++ e.event ∷ []) (handed i one)
+  by true rest = ap (λ (ls : List KeptLine). ls ++ e.event ∷ []) rest ∙ append_assoc (handed i other) (handed i one) (e.event ∷ [])
   by false rest = rest
 
 module _ (hosts : ℕ → Opening) (i : ℕ) where
-  pub after_handed : (calls base : List TimedLine) → after_kept (handed i calls) (there hosts base i) ≡ there hosts (calls ++ base) i
+  pub after_handed : (calls base : List (At KeptLine)) → after_kept (handed i calls) (there hosts base i) ≡ there hosts (calls ++ base) i
   after_handed [] base = refl
-  after_handed (e ∷ calls) base = by (nat_eq e.at.place i) (after_handed calls base) where
+  after_handed (e ∷ calls) base = by (nat_eq e.place i) (after_handed calls base) where
     k : Keeping
     k = there hosts base i
 
     m : Keeping
     m = there hosts (calls ++ base) i
 
-    by : (b : Bool) → after_kept (handed i calls) k ≡ m → after_kept (cond b (handed i calls ++ e.at.line ∷ []) (handed i calls)) k ≡ cond b (after_doing (doing_of e.at.line) m) m
-    by true rest = kept_both (handed i calls) (e.at.line ∷ []) k ∙ ap (after_doing (doing_of e.at.line)) rest
+    by : (b : Bool) → after_kept (handed i calls) k ≡ m → after_kept (cond b (handed i calls ++ e.event ∷ []) (handed i calls)) k ≡ cond b (after_doing (doing_of e.event) m) m
+    by true rest = kept_both (handed i calls) (e.event ∷ []) k ∙ ap (after_doing (doing_of e.event)) rest
     by false rest = rest
 
-  pub taken_handed : (calls base : List TimedLine) → sessions.AreTaken hosts (lines_of (calls ++ base)) → AreTaken (handed i calls) (there hosts base i)
+  pub taken_handed : (calls base : List (At KeptLine)) → sessions.AreTaken hosts (calls ++ base) → AreTaken (handed i calls) (there hosts base i)
   taken_handed [] base taken = tt
-  taken_handed (e ∷ calls) base taken = by (nat_eq e.at.place i) refl (taken_handed calls base taken.1) where
+  taken_handed (e ∷ calls) base taken = by (nat_eq e.place i) refl (taken_handed calls base taken.1) where
     k : Keeping
     k = there hosts base i
 
-    by : (b : Bool) → nat_eq e.at.place i ≡ b → AreTaken (handed i calls) k → AreTaken (cond b (handed i calls ++ e.at.line ∷ []) (handed i calls)) k
+    by : (b : Bool) → nat_eq e.place i ≡ b → AreTaken (handed i calls) k → AreTaken (cond b (handed i calls ++ e.event ∷ []) (handed i calls)) k
     by false other rest = rest
     by true same rest =
-        let here : fault_of e.at.line (there hosts (calls ++ base) i) ≡ None = subst (λ (p : ℕ). fault_of e.at.line (there hosts (calls ++ base) p) ≡ None) (eqb-true e.at.place i same) taken.0 in
-        taken_both (handed i calls) (e.at.line ∷ []) k rest (subst (λ (m : Keeping). fault_of e.at.line m ≡ None) (sym (after_handed calls base)) here, tt)
+        let here : fault_of e.event (there hosts (calls ++ base) i) ≡ None = subst (λ (p : ℕ). fault_of e.event (there hosts (calls ++ base) p) ≡ None) (eqb-true e.place i same) taken.0 in
+        taken_both (handed i calls) (e.event ∷ []) k rest (subst (λ (m : Keeping). fault_of e.event m ≡ None) (sym (after_handed calls base)) here, tt)
 
-  abbrev pub performs_in : (calls base : List TimedLine) → List Line
+  abbrev pub performs_in : (calls base : List (At KeptLine)) → List Line
   performs_in calls base = expand (handed i calls) (there hosts base i)
 
   -- what the host performs in two parts, one after the other
-  pub asked_both : (newer older base : List TimedLine) → ask_count (performs_in (newer ++ older) base) ≡ ask_count (performs_in older base) + ask_count (performs_in newer (older ++ base))
+  pub asked_both : (newer older base : List (At KeptLine)) → ask_count (performs_in (newer ++ older) base) ≡ ask_count (performs_in older base) + ask_count (performs_in newer (older ++ base))
   asked_both newer older base =
       let k = there hosts base i in
       ap (λ (ls : List KeptLine). ask_count (expand ls k)) (handed_both i newer older)
@@ -127,26 +127,26 @@ module _ (hosts : ℕ → Opening) (i : ℕ) where
       ∙ ap (λ (m : Keeping). ask_count (expand (handed i older) k) + ask_count (expand (handed i newer) m)) (after_handed older base)
 
   -- a line of one of its calls is one of these
-  pub stands_in : (front part base : List TimedLine) (e : TimedLine) (line : Line) → e.at.place ≡ i → Contains (does hosts e (part ++ base)) line → Contains (performs_in (front ++ e ∷ part) base) line
+  pub stands_in : (front part base : List (At KeptLine)) (e : At KeptLine) (line : Line) → e.place ≡ i → Contains (does hosts e (part ++ base)) line → Contains (performs_in (front ++ e ∷ part) base) line
   stands_in [] part base e line here c =
       let k = there hosts base i in
       let m = after_kept (handed i part) k in
-      let done : Contains (doing_of e.at.line (sees (there hosts (part ++ base) i).host) (there hosts (part ++ base) i).policy).lines line =
-      subst (λ (p : ℕ). Contains (let l = there hosts (part ++ base) p in (doing_of e.at.line (sees l.host) l.policy).lines) line) here c in
-      let then : Contains (doing_of e.at.line (sees m.host) m.policy).lines line = subst (λ (l : Keeping). Contains (doing_of e.at.line (sees l.host) l.policy).lines line) (sym (after_handed part base)) done in
-      subst (λ (ls : List KeptLine). Contains (expand ls k) line) (sym (ap (λ (b : Bool). cond b (handed i part ++ e.at.line ∷ []) (handed i part)) (eq-eqb e.at.place i here)))
-      (subst (λ (ls : List Line). Contains ls line) (sym (expand_both (handed i part) (e.at.line ∷ []) k))
-      (Contains-append_right (expand (handed i part) k) (expand (e.at.line ∷ []) m) line
-      (Contains-append_left (doing_of e.at.line (sees m.host) m.policy).lines [] line then)))
-  stands_in (y ∷ front) part base e line here c = by (nat_eq y.at.place i) (stands_in front part base e line here c) where
+      let done : Contains (doing_of e.event (sees (there hosts (part ++ base) i).host) (there hosts (part ++ base) i).policy).lines line =
+      subst (λ (p : ℕ). Contains (let l = there hosts (part ++ base) p in (doing_of e.event (sees l.host) l.policy).lines) line) here c in
+      let then : Contains (doing_of e.event (sees m.host) m.policy).lines line = subst (λ (l : Keeping). Contains (doing_of e.event (sees l.host) l.policy).lines line) (sym (after_handed part base)) done in
+      subst (λ (ls : List KeptLine). Contains (expand ls k) line) (sym (ap (λ (b : Bool). cond b (handed i part ++ e.event ∷ []) (handed i part)) (eq-eqb e.place i here)))
+      (subst (λ (ls : List Line). Contains ls line) (sym (expand_both (handed i part) (e.event ∷ []) k))
+      (Contains-append_right (expand (handed i part) k) (expand (e.event ∷ []) m) line
+      (Contains-append_left (doing_of e.event (sees m.host) m.policy).lines [] line then)))
+  stands_in (y ∷ front) part base e line here c = by (nat_eq y.place i) (stands_in front part base e line here c) where
     k : Keeping
     k = there hosts base i
 
     h : List KeptLine
     h = handed i (front ++ e ∷ part)
 
-    by : (b : Bool) → Contains (expand h k) line → Contains (expand (cond b (h ++ y.at.line ∷ []) h) k) line
+    by : (b : Bool) → Contains (expand h k) line → Contains (expand (cond b (h ++ y.event ∷ []) h) k) line
     by false rest = rest
     by true rest =
-        subst (λ (ls : List Line). Contains ls line) (sym (expand_both h (y.at.line ∷ []) k))
-        (Contains-append_left (expand h k) (expand (y.at.line ∷ []) (after_kept h k)) line rest)
+        subst (λ (ls : List Line). Contains ls line) (sym (expand_both h (y.event ∷ []) k))
+        (Contains-append_left (expand h k) (expand (y.event ∷ []) (after_kept h k)) line rest)

@@ -11,13 +11,14 @@ use Rattle.wb_policy.specs.Choices.{near_names}
 use Rattle.wb_policy.specs.Words as words
 use Rattle.wb_keeping.specs.Kept.{leaps_on, turns_on}
 use Rattle.wb_kept_progress.specs.Holed.{HoledMeets, IsHoleAt, holed, holed_lines, numbered, seldom, unfilled_lines}
-use Rattle.wb_kept_progress.specs.Timed.{TimedLine, called_at}
+use Rattle.wb_kept_progress.specs.Timed.{At, time_of}
 use Rattle.wb_kept_progress.specs.Whole.{there}
 use Rattle.wb_kept_progress.proofs.CallsInTime.{always_short}
 use Rattle.wb_kept_progress.proofs.HolesTested.{all_lack_few, all_wait_short, are_held, hole_so, holes_are_held, holes_held, is_held, is_hole, one_lacks, only_holes, only_holes_lacked, waits_for}
 use Rattle.wb_kept_progress.proofs.ShortTested.{calls_near, go_by_short}
 use Rattle.wb_kept_progress.proofs.Tested.{Begins, delivers, has_room, in_order, in_time, is_fresh, lines_keep, passes, session_of, taken}
 use Rattle.wb_kept_progress.proofs.Testing.{each, each-at, halved, parts, splits, two_live}
+use Rattle.wb_keeping.specs.Laws.{KeptLine}
 
 -- ---- what computes
 
@@ -34,11 +35,11 @@ unfolding started word_of after_word words.started report_of gaps_of pages_of ne
 hosts_keep = refl
 
 -- what is sent, in three pieces
-abbrev is_after : ℕ → TimedLine → Bool
+abbrev is_after : ℕ → At KeptLine → Bool
 is_after time e = nat_lt time e.time
 
-abbrev sends : List TimedLine → TimedLine → List TimedLine → Bool
-sends = delivers seldom holed (called_at holed_lines)
+abbrev sends : List (At KeptLine) → At KeptLine → List (At KeptLine) → Bool
+sends = delivers seldom holed (time_of holed_lines)
 
 sent_first : splits (λ newer e older. is_after 45000000 e || sends newer e older) [] holed_lines ≡ true
 unfolding started word_of after_word words.started report_of gaps_of pages_of near_names leaps_on turns_on
@@ -80,7 +81,7 @@ come = refl
 
 sent : splits sends [] holed_lines ≡ true
 sent = halved (is_after 45000000) sends [] holed_lines sent_first (halved (is_after 80000000) later [] holed_lines sent_then sent_last) where
-  later : List TimedLine → TimedLine → List TimedLine → Bool
+  later : List (At KeptLine) → At KeptLine → List (At KeptLine) → Bool
   later newer e older = not (is_after 45000000 e) || sends newer e older
 
 keeps : passes seldom holed holed_lines ≡ true

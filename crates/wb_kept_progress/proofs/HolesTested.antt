@@ -22,11 +22,12 @@ use Rattle.wb_member.specs.Opened.{Opened}
 use Rattle.wb_kept_progress.specs.Filling.{OnlyHolesAreLacked}
 use Rattle.wb_kept_progress.specs.Rounds.{OneLacksAtMost}
 use Rattle.wb_kept_progress.specs.Sessions.{Opening}
-use Rattle.wb_kept_progress.specs.Timed.{TimedLine, called_at, host_after, performed, start_of, timers_after, until}
+use Rattle.wb_kept_progress.specs.Timed.{At, host_after, performed, start_of, time_of, timers_after, until}
 use Rattle.wb_kept_progress.specs.Whole.{HolesAreHeld, IsHeldBySome, WaitAtMost, there}
 use Rattle.wb_kept_progress.proofs.Coming.{missing_below}
 use Rattle.wb_kept_progress.proofs.Tested.{in_middle}
 use Rattle.wb_kept_progress.proofs.Testing.{each, each-at, parts, parts-at, some, some-at}
+use Rattle.wb_keeping.specs.Laws.{KeptLine}
 
 -- ---- numbers up to one
 
@@ -77,7 +78,7 @@ is_hole held n = is_below held n && not (has held n)
 pub hole_so : (held : List DrawopValue) (n : NameValue) → is_hole held n ≡ true → IsMissing held n.page [] n.source n.seq
 hole_so held n so = let p = and_parts (is_below held n) _ so in below_so held n p.0 (not-true (has held n) p.1)
 
-module _ (hosts : ℕ → Opening) (terms : Terms) (trace : List TimedLine) (names : List NameValue) where
+module _ (hosts : ℕ → Opening) (terms : Terms) (trace : List (At KeptLine)) (names : List NameValue) where
   abbrev is_one : NameValue → Bool
   is_one n = some (same_name n) names
 
@@ -119,18 +120,18 @@ module _ (hosts : ℕ → Opening) (terms : Terms) (trace : List TimedLine) (nam
   -- ---- tests of each part
 
   -- each number up to one that a live host holds is one of the names
-  abbrev has_held_holes : List TimedLine → ℕ → Bool
+  abbrev has_held_holes : List (At KeptLine) → ℕ → Bool
   has_held_holes part i = each (λ (d : DrawopValue). each_up_to (λ m. is_one (name_of d.name.page d.name.source m)) d.name.seq) (there hosts part i).host.is.held
 
-  abbrev pub holes_held : List TimedLine → Bool
-  holes_held part = nat_le (called_at part) (settled_by terms) || each (has_held_holes part) terms.live
+  abbrev pub holes_held : List (At KeptLine) → Bool
+  holes_held part = nat_le (time_of part) (settled_by terms) || each (has_held_holes part) terms.live
 
   -- each of the names is held, or is below one that is
-  abbrev lacks_holes : List TimedLine → ℕ → Bool
+  abbrev lacks_holes : List (At KeptLine) → ℕ → Bool
   lacks_holes part i = each (λ n. holds (there hosts part i).host n || is_below (there hosts part i).host.is.held n) names
 
-  abbrev pub only_holes : ℕ → List TimedLine → Bool
-  only_holes since part = nat_lt (called_at part) since || each (lacks_holes part) terms.live
+  abbrev pub only_holes : ℕ → List (At KeptLine) → Bool
+  only_holes since part = nat_lt (time_of part) since || each (lacks_holes part) terms.live
 
   -- ---- what they tell
 
@@ -181,9 +182,9 @@ module _ (hosts : ℕ → Opening) (terms : Terms) (trace : List TimedLine) (nam
 
       all_live : each (has_held_holes older) terms.live ≡ true
       all_live = ⊎_elim
-          (λ (early : nat_le (called_at older) (settled_by terms) ≡ true). let le = leb-true _ _ early in absurd (omega (arith, le, late)))
+          (λ (early : nat_le (time_of older) (settled_by terms) ≡ true). let le = leb-true _ _ early in absurd (omega (arith, le, late)))
           (λ (is : each (has_held_holes older) terms.live ≡ true). is)
-          (or_cases (nat_le (called_at older) (settled_by terms)) _ (parts-at holes_held trace newer older so split))
+          (or_cases (nat_le (time_of older) (settled_by terms)) _ (parts-at holes_held trace newer older so split))
 
       by : (top ≡ 0) ⊎ IsHeld held n.page n.source top → Contains names n
       by (inl none) = absurd (none_below n.seq top none counted under) where
@@ -202,9 +203,9 @@ module _ (hosts : ℕ → Opening) (terms : Terms) (trace : List TimedLine) (nam
 
       all_live : each (lacks_holes older) terms.live ≡ true
       all_live = ⊎_elim
-          (λ (early : nat_lt (called_at older) since ≡ true). let lt = ltb-true _ _ early in absurd (omega (arith, lt, late)))
+          (λ (early : nat_lt (time_of older) since ≡ true). let lt = ltb-true _ _ early in absurd (omega (arith, lt, late)))
           (λ (is : each (lacks_holes older) terms.live ≡ true). is)
-          (or_cases (nat_lt (called_at older) since) _ (parts-at (only_holes since) trace newer older so split))
+          (or_cases (nat_lt (time_of older) since) _ (parts-at (only_holes since) trace newer older so split))
 
       below : is_below held n ≡ true
       below = ⊎_elim

@@ -10,7 +10,7 @@ use Rattle.wb_member.specs.Judged.{holds, is_full}
 use Rattle.wb_member.specs.Opened.{Opened, present}
 use Rattle.wb_keeping.specs.Bounds.{answer_count, ask_count}
 use Rattle.wb_keeping.specs.Kept.{Line}
-use Rattle.wb_keeping.specs.Laws.{after_kept}
+use Rattle.wb_keeping.specs.Laws.{KeptLine, after_kept}
 use Rattle.wb_keeping.specs.Performing.{Keeping, after_lines}
 use Rattle.wb_keeping.proofs.KeptHosts.{kept_hosts_are_hosts}
 use Rattle.wb_keeping.proofs.LittleSaid.{few_names_are_asked}
@@ -18,26 +18,27 @@ use Rattle.wb_kept_progress.specs.Crowded.{SessionsBecomeWholeInCrowds, crowded_
 use Rattle.wb_kept_progress.specs.Rounds.{OneLacksAtMost}
 use Rattle.wb_kept_progress.specs.Sessions as sessions
 use Rattle.wb_kept_progress.specs.Sessions.{Opening}
-use Rattle.wb_kept_progress.specs.Timed.{TimedLine, called_at, lines_of}
-use Rattle.wb_kept_progress.specs.Whole.{AreCalledInOrder, IsHeldBySome, IsTimelySession, WaitAtMost, there}
+use Rattle.wb_kept_progress.specs.Timed.{AreInOrder, At, time_of}
+use Rattle.wb_kept_progress.specs.Whole.{IsHeldBySome, IsTimelySession, WaitAtMost, there}
 use Rattle.wb_kept_progress.proofs.Becoming.{lacked_before, lacked_first}
-use Rattle.wb_kept_progress.proofs.CallParts.{calls_end, calls_order, due_by_turn}
+use Rattle.wb_kept_progress.proofs.CallParts.{due_by_turn}
 use Rattle.wb_kept_progress.proofs.ComeOnce.{HaveCome, have_come}
 use Rattle.wb_kept_progress.proofs.DrawsNone.{late_behind, none_draws, performs_no_drawing}
 use Rattle.wb_kept_progress.proofs.Handed.{after_handed, handed, performs_in, taken_handed}
 use Rattle.wb_kept_progress.proofs.NothingNew.{held_was_held}
 use Rattle.wb_kept_progress.proofs.OwedAndDue.{near_there, next_by_turn, now_there, taken_of}
 use Rattle.wb_kept_progress.proofs.RoundCounts.{Counted, FilledFor, IsThen, counted, then_at}
+use Rattle.wb_progress.proofs.Parts.{before_end, order_of}
 
-module _ (hosts : ℕ → Opening) (terms : Terms) (trace : List TimedLine) (most i : ℕ) (session : IsTimelySession hosts terms trace) (lacks_most : OneLacksAtMost hosts terms trace most) (live : Contains terms.live i) where
+module _ (hosts : ℕ → Opening) (terms : Terms) (trace : List (At KeptLine)) (most i : ℕ) (session : IsTimelySession hosts terms trace) (lacks_most : OneLacksAtMost hosts terms trace most) (live : Contains terms.live i) where
   -- no more names are lacked by then
-  pub few_lacked : (newer part : List TimedLine) (names : List NameValue) → trace ≡ newer ++ part → settled_by terms < called_at part → AreApart names
+  pub few_lacked : (newer part : List (At KeptLine)) (names : List NameValue) → trace ≡ newer ++ part → settled_by terms < time_of part → AreApart names
       → ((x : NameValue) → Contains names x → IsHeldBySome hosts terms trace x × (holds (there hosts part i).host x ≡ false)) → length names ≤ most
   few_lacked newer part names split late apart each = lacks_most i names apart (λ x c. let l = each x c in lacked_first hosts terms trace newer part i x session.order split late live l.0 l.1)
 
   -- ---- what is asked for costs credit
 
-  module _ (newer window base : List TimedLine) (e : TimedLine) (split : trace ≡ newer ++ e ∷ (window ++ base)) (late : settled_by terms < called_at base) where
+  module _ (newer window base : List (At KeptLine)) (e : At KeptLine) (split : trace ≡ newer ++ e ∷ (window ++ base)) (late : settled_by terms < time_of base) where
     abbrev k : Keeping
     k = there hosts base i
 
@@ -53,14 +54,14 @@ module _ (hosts : ℕ → Opening) (terms : Terms) (trace : List TimedLine) (mos
     upto_base : trace ≡ ((newer ++ e ∷ []) ++ window) ++ base
     upto_base = upto ∙ sym (append_assoc (newer ++ e ∷ []) window base)
 
-    order : AreCalledInOrder (window ++ base)
-    order = calls_order (newer ++ e ∷ []) (window ++ base) (subst AreCalledInOrder upto session.order)
+    order : AreInOrder (window ++ base)
+    order = order_of (newer ++ e ∷ []) (window ++ base) (subst AreInOrder upto session.order)
 
-    ends : called_at base ≤ called_at (window ++ base)
-    ends = calls_end window base order
+    ends : time_of base ≤ time_of (window ++ base)
+    ends = before_end window base order
 
-    taken : sessions.AreTaken hosts (lines_of (window ++ base))
-    taken = taken_of hosts (newer ++ e ∷ []) (window ++ base) (subst (λ (t : List TimedLine). sessions.AreTaken hosts (lines_of t)) upto session.taken)
+    taken : sessions.AreTaken hosts (window ++ base)
+    taken = taken_of hosts (newer ++ e ∷ []) (window ++ base) (subst (λ (t : List (At KeptLine)). sessions.AreTaken hosts t) upto session.taken)
 
     same : after_kept (handed i window) k ≡ m
     same = after_handed hosts i window base
@@ -88,10 +89,10 @@ module _ (hosts : ℕ → Opening) (terms : Terms) (trace : List TimedLine) (mos
         omega (arith, count, le)
 
     -- the clock is not far behind
-    first_now : (first : List TimedLine) (y : TimedLine) → e ∷ window ≡ first ++ y ∷ [] → called_at base ≤ present k.host + (terms.lag i + (16000000 + terms.late))
+    first_now : (first : List (At KeptLine)) (y : At KeptLine) → e ∷ window ≡ first ++ y ∷ [] → time_of base ≤ present k.host + (terms.lag i + (16000000 + terms.late))
     first_now first y is =
-        let here : trace ≡ (newer ++ first) ++ y ∷ base = split ∙ ap (λ (l : List TimedLine). newer ++ (l ++ base)) is ∙ ap (λ (l : List TimedLine). newer ++ l) (append_assoc first (y ∷ []) base) ∙ sym (append_assoc newer first (y ∷ base)) in
-        let in_order = calls_order (newer ++ first) (y ∷ base) (subst AreCalledInOrder here session.order) in
+        let here : trace ≡ (newer ++ first) ++ y ∷ base = split ∙ ap (λ (l : List (At KeptLine)). newer ++ (l ++ base)) is ∙ ap (λ (l : List (At KeptLine)). newer ++ l) (append_assoc first (y ∷ []) base) ∙ sym (append_assoc newer first (y ∷ base)) in
+        let in_order = order_of (newer ++ first) (y ∷ base) (subst AreInOrder here session.order) in
         let o = in_order.0 in
         let soon = session.soon (newer ++ first) base y i here live (omega (arith, late, o)) in
         let turn = due_by_turn k in
@@ -99,11 +100,11 @@ module _ (hosts : ℕ → Opening) (terms : Terms) (trace : List TimedLine) (mos
         let beat = near.beat in
         omega (arith, o, soon, turn, beat)
 
-    last_one : (y : TimedLine) (calls : List TimedLine) → (first : List TimedLine) × (last : TimedLine) × (y ∷ calls ≡ first ++ last ∷ [])
+    last_one : (y : At KeptLine) (calls : List (At KeptLine)) → (first : List (At KeptLine)) × (last : At KeptLine) × (y ∷ calls ≡ first ++ last ∷ [])
     last_one y [] = ([], y, refl)
-    last_one y (z ∷ calls) = let rest = last_one z calls in (y ∷ rest.0, rest.1, ap (λ (l : List TimedLine). y ∷ l) rest.2)
+    last_one y (z ∷ calls) = let rest = last_one z calls in (y ∷ rest.0, rest.1, ap (λ (l : List (At KeptLine)). y ∷ l) rest.2)
 
-    pub few_asked : ask_count lines * 250000 ≤ (64 + 2 * most) * 250000 + (called_at (window ++ base) - called_at base + (16000000 + terms.late))
+    pub few_asked : ask_count lines * 250000 ≤ (64 + 2 * most) * 250000 + (time_of (window ++ base) - time_of base + (16000000 + terms.late))
     few_asked =
         let few = few_names_are_asked (handed i window) k (taken_handed hosts i window base taken) in
         let come = few_come in
@@ -112,16 +113,16 @@ module _ (hosts : ℕ → Opening) (terms : Terms) (trace : List TimedLine) (mos
         let now = now_there hosts terms trace (newer ++ e ∷ []) (window ++ base) i session upto live in
         let le = ends in
         let is = ap (λ (l : Keeping). present l.host) same in
-        reckoned (ask_count lines) (answer_count lines k.host) most (present (after_kept (handed i window) k).host) (present m.host) (present k.host) (called_at (window ++ base)) (called_at base) (terms.lag i) terms.late terms.quiet few come is now first le (omega (arith, late)) where
+        reckoned (ask_count lines) (answer_count lines k.host) most (present (after_kept (handed i window) k).host) (present m.host) (present k.host) (time_of (window ++ base)) (time_of base) (terms.lag i) terms.late terms.quiet few come is now first le (omega (arith, late)) where
           reckoned : (asks answers most after then before end from lag late quiet : ℕ) → asks * 250000 ≤ (64 + 2 * answers) * 250000 + (after - before) → answers ≤ most → after ≡ then → then + lag ≤ max end quiet → from ≤ before + (lag + (16000000 + late)) → from ≤ end → quiet ≤ from
               → asks * 250000 ≤ (64 + 2 * most) * 250000 + (end - from + (16000000 + late))
           reckoned asks answers most after then before end from lag late quiet few come is now first le settled = omega (arith, few, come, is, now, first, le, settled)
 
 -- ---- the law
 
-module _ (hosts : ℕ → Opening) (terms : Terms) (trace : List TimedLine) (since wait most places bringing crowded i : ℕ) (n : NameValue) (session : IsTimelySession hosts terms trace) (waits : WaitAtMost hosts terms trace wait)
+module _ (hosts : ℕ → Opening) (terms : Terms) (trace : List (At KeptLine)) (since wait most places bringing crowded i : ℕ) (n : NameValue) (session : IsTimelySession hosts terms trace) (waits : WaitAtMost hosts terms trace wait)
     (lacks_most : OneLacksAtMost hosts terms trace most) (filled : FilledFor hosts terms trace since places i n) (brings : most ≤ bringing * places) (enough : spent_in terms most (bringing + crowded) ≤ crowded * (64 * 250000))
-    (held : IsHeldBySome hosts terms trace n) (live : Contains terms.live i) (newer later : List TimedLine) (split : trace ≡ newer ++ later) (late : crowded_by terms since wait (bringing + crowded) < called_at later)
+    (held : IsHeldBySome hosts terms trace n) (live : Contains terms.live i) (newer later : List (At KeptLine)) (split : trace ≡ newer ++ later) (late : crowded_by terms since wait (bringing + crowded) < time_of later)
     (lacks : holds (there hosts later i).host n ≡ false) where
   abbrev start : ℕ
   start = max (known_from terms + wait + repairing terms) since
@@ -129,17 +130,17 @@ module _ (hosts : ℕ → Opening) (terms : Terms) (trace : List TimedLine) (sin
   abbrev all_rounds : ℕ
   all_rounds = (bringing + crowded) * round_span terms
 
-  late_so : start + (16000000 + terms.late) + all_rounds < called_at later
+  late_so : start + (16000000 + terms.late) + all_rounds < time_of later
   late_so = late
 
   v : IsThen later start
   v = then_at later start (let l = late_so in omega (arith, l))
 
-  abbrev base : List TimedLine
+  abbrev base : List (At KeptLine)
   base = v.next ∷ v.part
 
   split_base : trace ≡ (newer ++ v.front) ++ base
-  split_base = split ∙ ap (λ (l : List TimedLine). newer ++ l) v.split ∙ sym (append_assoc newer v.front base)
+  split_base = split ∙ ap (λ (l : List (At KeptLine)). newer ++ l) v.split ∙ sym (append_assoc newer v.front base)
 
   -- the first call after the start comes soon
   begins : v.next.time ≤ start + (16000000 + terms.late)
@@ -153,10 +154,10 @@ module _ (hosts : ℕ → Opening) (terms : Terms) (trace : List TimedLine) (sin
   w = then_at later (v.next.time + all_rounds) (let l = late_so in let b = begins in omega (arith, l, b))
 
   split_w : trace ≡ (newer ++ w.front) ++ w.next ∷ w.part
-  split_w = split ∙ ap (λ (l : List TimedLine). newer ++ l) w.split ∙ sym (append_assoc newer w.front (w.next ∷ w.part))
+  split_w = split ∙ ap (λ (l : List (At KeptLine)). newer ++ l) w.split ∙ sym (append_assoc newer w.front (w.next ∷ w.part))
 
   lacks_w : holds (there hosts (w.next ∷ w.part) i).host n ≡ false
-  lacks_w = lacked_before hosts w.front (w.next ∷ w.part) i n (subst (λ (l : List TimedLine). holds (there hosts l i).host n ≡ false) w.split lacks)
+  lacks_w = lacked_before hosts w.front (w.next ∷ w.part) i n (subst (λ (l : List (At KeptLine)). holds (there hosts l i).host n ≡ false) w.split lacks)
 
   known : known_from terms + wait + repairing terms < v.next.time
   known = let after = v.after in omega (arith, after)
@@ -191,10 +192,10 @@ module _ (hosts : ℕ → Opening) (terms : Terms) (trace : List TimedLine) (sin
       let few = few_bring in
       let rounds = c.rounds in
       let asks = c.asks in
-      let here : trace ≡ (newer ++ w.front) ++ w.next ∷ (c.window ++ base) = split_w ∙ ap (λ (l : List TimedLine). (newer ++ w.front) ++ w.next ∷ l) c.is in
+      let here : trace ≡ (newer ++ w.front) ++ w.next ∷ (c.window ++ base) = split_w ∙ ap (λ (l : List (At KeptLine)). (newer ++ w.front) ++ w.next ∷ l) c.is in
       let spent = few_asked hosts terms trace most i session lacks_most live (newer ++ w.front) c.window base w.next here settled in
-      let ends : called_at (c.window ++ base) ≤ v.next.time + all_rounds = subst (λ (l : List TimedLine). called_at l ≤ v.next.time + all_rounds) c.is w.by in
-      too_many (ask_count (performs_in hosts i c.window base)) c.bringing c.crowded (called_at (c.window ++ base)) v.next.time all_rounds terms.late few rounds asks spent ends enough where
+      let ends : time_of (c.window ++ base) ≤ v.next.time + all_rounds = subst (λ (l : List (At KeptLine)). time_of l ≤ v.next.time + all_rounds) c.is w.by in
+      too_many (ask_count (performs_in hosts i c.window base)) c.bringing c.crowded (time_of (c.window ++ base)) v.next.time all_rounds terms.late few rounds asks spent ends enough where
         too_many : (asks brought crowds end from span late : ℕ) → brought < bringing → brought + crowds ≡ bringing + crowded → 64 * crowds ≤ asks → asks * 250000 ≤ (64 + 2 * most) * 250000 + (end - from + (16000000 + late)) → end ≤ from + span
             → (64 + 2 * most) * 250000 + (16000000 + late) + span ≤ crowded * (64 * 250000) → ⊥
         too_many asks brought crowds end from span late few rounds asked spent ends enough = omega (arith, few, rounds, asked, spent, ends, enough)

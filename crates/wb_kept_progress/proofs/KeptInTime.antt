@@ -18,26 +18,26 @@ use Rattle.wb_keeping.specs.Performing.{after_line, after_lines, sees, sent_by_l
 use Rattle.wb_policy.specs.Policy.{Policy}
 use Rattle.wb_keeping.specs.Views.{View}
 use Rattle.wb_kept_progress.specs.Sessions.{Opening, kept_at}
-use Rattle.wb_kept_progress.specs.Timed.{AllHoldBehind, AllKeptHoldBehind, IsGivenUp, IsKeptTimely, KeptRequestIsAnswered, KeptTimerLeadsOrIsGivenUp, Performed, Start, TimedLine, called_at, host_after, lines_of, performed, performed_then, start_of, time_of}
+use Rattle.wb_kept_progress.specs.Timed.{AllHoldBehind, AllKeptHoldBehind, At, IsGivenUp, IsKeptTimely, KeptRequestIsAnswered, KeptTimerLeadsOrIsGivenUp, Start, host_after, performed, performed_then, start_of, time_of}
 use Rattle.wb_kept_progress.proofs.Performed.{after_all, kept_is_performed}
 use Rattle.wb_kept_progress.proofs.Repairs.{is_itself}
 use Rattle.wb_kept_progress.proofs.GivenUp.{request_is_answered, timer_leads_or_is_given_up}
 
-abbrev pub at_place : ℕ → ℕ → Line → Performed
-at_place time place line = record { time = time; place = place; line = line }
+abbrev pub at_place : ℕ → ℕ → Line → At Line
+at_place time place line = record { time = time; place = place; event = line }
 
 -- lines that are performed stand before the older ones
-pub then_front : (time place : ℕ) (lines : List Line) (older : List Performed) → (front : List Performed) × (performed_then time place lines older ≡ front ++ older)
+pub then_front : (time place : ℕ) (lines : List Line) (older : List (At Line)) → (front : List (At Line)) × (performed_then time place lines older ≡ front ++ older)
 then_front time place [] older = ([], refl)
 then_front time place (line ∷ lines) older =
     let rest = then_front time place lines (at_place time place line ∷ older) in
     (rest.0 ++ at_place time place line ∷ [], rest.1 ∙ sym (append_assoc rest.0 (at_place time place line ∷ []) older))
 
-pub then_both : (time place : ℕ) (one other : List Line) (older : List Performed) → performed_then time place (one ++ other) older ≡ performed_then time place other (performed_then time place one older)
+pub then_both : (time place : ℕ) (one other : List Line) (older : List (At Line)) → performed_then time place (one ++ other) older ≡ performed_then time place other (performed_then time place one older)
 then_both time place [] other older = refl
 then_both time place (line ∷ one) other older = then_both time place one other (at_place time place line ∷ older)
 
-pub then_time : (time place : ℕ) (lines : List Line) (line : Line) (older : List Performed) → time_of (performed_then time place lines (at_place time place line ∷ older)) ≡ time
+pub then_time : (time place : ℕ) (lines : List Line) (line : Line) (older : List (At Line)) → time_of (performed_then time place lines (at_place time place line ∷ older)) ≡ time
 then_time time place [] line older = refl
 then_time time place (next ∷ lines) line older = then_time time place lines next (at_place time place line ∷ older)
 
@@ -69,25 +69,25 @@ module _ (hosts : ℕ → Opening) where
   abbrev pub starts : ℕ → Start
   starts j = start_of (hosts j)
 
-  abbrev does : TimedLine → List TimedLine → List Line
-  does e older = let k = kept_at hosts (lines_of older) e.at.place in (doing_of e.at.line (sees k.host) k.policy).lines
+  abbrev does : At KeptLine → List (At KeptLine) → List Line
+  does e older = let k = kept_at hosts older e.place in (doing_of e.event (sees k.host) k.policy).lines
 
-  pub front_of : (newer older : List TimedLine) → (front : List Performed) × (performed hosts (newer ++ older) ≡ front ++ performed hosts older)
+  pub front_of : (newer older : List (At KeptLine)) → (front : List (At Line)) × (performed hosts (newer ++ older) ≡ front ++ performed hosts older)
   front_of [] older = ([], refl)
   front_of (e ∷ newer) older =
-      let a = then_front e.time e.at.place (does e (newer ++ older)) (performed hosts (newer ++ older)) in
+      let a = then_front e.time e.place (does e (newer ++ older)) (performed hosts (newer ++ older)) in
       let b = front_of newer older in
-      (a.0 ++ b.0, a.1 ∙ ap (λ (t : List Performed). a.0 ++ t) b.1 ∙ sym (append_assoc a.0 b.0 (performed hosts older)))
+      (a.0 ++ b.0, a.1 ∙ ap (λ (t : List (At Line)). a.0 ++ t) b.1 ∙ sym (append_assoc a.0 b.0 (performed hosts older)))
 
-  pub time_is : (trace : List TimedLine) → time_of (performed hosts trace) ≡ called_at trace
+  pub time_is : (trace : List (At KeptLine)) → time_of (performed hosts trace) ≡ time_of trace
   time_is [] = refl
   time_is (e ∷ older) =
-      let k = kept_at hosts (lines_of older) e.at.place in
-      let b = first_of_call e.at.line (sees k.host) k.policy in
-      ap (λ (lines : List Line). time_of (performed_then e.time e.at.place lines (performed hosts older))) b.2 ∙ then_time e.time e.at.place b.1 b.0 (performed hosts older)
+      let k = kept_at hosts older e.place in
+      let b = first_of_call e.event (sees k.host) k.policy in
+      ap (λ (lines : List Line). time_of (performed_then e.time e.place lines (performed hosts older))) b.2 ∙ then_time e.time e.place b.1 b.0 (performed hosts older)
 
-  module _ (terms : Terms) (trace : List TimedLine) (is : IsKeptTimely hosts terms trace) where
-    same : (part : List TimedLine) (i : ℕ) → host_after starts (performed hosts part) i ≡ (kept_at hosts (lines_of part) i).host
+  module _ (terms : Terms) (trace : List (At KeptLine)) (is : IsKeptTimely hosts terms trace) where
+    same : (part : List (At KeptLine)) (i : ℕ) → host_after starts (performed hosts part) i ≡ (kept_at hosts part i).host
     same part i = (kept_is_performed hosts part).same i
 
     pub holding : (n : NameValue) (time : ℕ) → AllHoldBehind starts terms (performed hosts trace) time n → AllKeptHoldBehind hosts terms trace time n
@@ -101,7 +101,7 @@ kept_timer_leads_or_is_given_up hosts terms trace newer older i n ask due is spl
     let f = front_of hosts newer older in
     let time = time_is hosts older in
     ⊎_elim
-    (λ (h : AllHoldBehind (starts hosts) terms (performed hosts trace) (max (time_of (performed hosts older)) due + repairing terms) n). inl (holding hosts terms trace is n (max (called_at older) due + repairing terms)
+    (λ (h : AllHoldBehind (starts hosts) terms (performed hosts trace) (max (time_of (performed hosts older)) due + repairing terms) n). inl (holding hosts terms trace is n (max (time_of older) due + repairing terms)
     (subst (λ (t : ℕ). AllHoldBehind (starts hosts) terms (performed hosts trace) (max t due + repairing terms) n) time h)))
     (λ (g : IsGivenUp (starts hosts) (performed hosts trace) (performed hosts older) i n ask (max (time_of (performed hosts older)) due + terms.late)). inr
     (subst (λ (t : ℕ). IsGivenUp (starts hosts) (performed hosts trace) (performed hosts older) i n ask (max t due + terms.late)) time g))
@@ -110,15 +110,15 @@ kept_timer_leads_or_is_given_up hosts terms trace newer older i n ask due is spl
 
 pub kept_request_is_answered : KeptRequestIsAnswered
 kept_request_is_answered hosts terms trace newer older e asker n is split late later sent a =
-    let k = kept_at hosts (lines_of older) e.at.place in
+    let k = kept_at hosts older e.place in
     let s = sent_by_one (does hosts e older) k.host (Request asker n) sent in
     let f = front_of hosts newer (e ∷ older) in
-    let base = performed_then e.time e.at.place s.before (performed hosts older) in
-    let x = at_place e.time e.at.place s.line in
-    let g = then_front e.time e.at.place s.later (x ∷ base) in
-    let parted : performed hosts (e ∷ older) ≡ g.0 ++ x ∷ base = ap (λ (lines : List Line). performed_then e.time e.at.place lines (performed hosts older)) s.split ∙ then_both e.time e.at.place s.before (s.line ∷ s.later) (performed hosts older) ∙ g.1 in
-    let whole : performed hosts trace ≡ (f.0 ++ g.0) ++ x ∷ base = ap (performed hosts) split ∙ f.1 ∙ ap (λ (t : List Performed). f.0 ++ t) parted ∙ sym (append_assoc f.0 g.0 (x ∷ base)) in
-    let there : host_after (starts hosts) base e.at.place ≡ after_lines s.before k.host =
-    after_all (starts hosts) e.time e.at.place s.before (performed hosts older) e.at.place true (is_itself e.at.place) ∙ ap (after_lines s.before) (same hosts terms trace is older e.at.place) in
+    let base = performed_then e.time e.place s.before (performed hosts older) in
+    let x = at_place e.time e.place s.line in
+    let g = then_front e.time e.place s.later (x ∷ base) in
+    let parted : performed hosts (e ∷ older) ≡ g.0 ++ x ∷ base = ap (λ (lines : List Line). performed_then e.time e.place lines (performed hosts older)) s.split ∙ then_both e.time e.place s.before (s.line ∷ s.later) (performed hosts older) ∙ g.1 in
+    let whole : performed hosts trace ≡ (f.0 ++ g.0) ++ x ∷ base = ap (performed hosts) split ∙ f.1 ∙ ap (λ (t : List (At Line)). f.0 ++ t) parted ∙ sym (append_assoc f.0 g.0 (x ∷ base)) in
+    let there : host_after (starts hosts) base e.place ≡ after_lines s.before k.host =
+    after_all (starts hosts) e.time e.place s.before (performed hosts older) e.place true (is_itself e.place) ∙ ap (after_lines s.before) (same hosts terms trace is older e.place) in
     holding hosts terms trace is n (e.time + answering_by terms)
     (request_is_answered (starts hosts) terms (performed hosts trace) (f.0 ++ g.0) base x asker n is whole late later (subst (λ (h : Opened). Contains (sent_by_line s.line h) (Request asker n)) (sym there) s.sent) a)

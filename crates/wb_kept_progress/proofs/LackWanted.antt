@@ -27,9 +27,9 @@ use Rattle.wb_policy.proofs.FairTurns.{each_number_has_its_turn_soon}
 use Rattle.wb_policy.proofs.Reporting.{each_mark_is_told}
 use Rattle.wb_policy.proofs.HeldTops.{below_top, page_there, top_held, top_told}
 use Rattle.wb_kept_progress.specs.Sessions.{Opening}
-use Rattle.wb_kept_progress.specs.Timed.{SaysNow, TimedLine, called_at, host_after, lines_of, performed, start_of, until}
-use Rattle.wb_kept_progress.specs.Whole.{AreCalledInOrder, AreSoon, AreWithin, HolesAreHeld, IsHandedIn, IsHeldBySome, IsTimelySession, Sizes, there, wanting}
-use Rattle.wb_kept_progress.proofs.CallParts.{calls_end, lacked_until}
+use Rattle.wb_kept_progress.specs.Timed.{AreInOrder, At, SaysNow, host_after, performed, start_of, time_of, until}
+use Rattle.wb_kept_progress.specs.Whole.{AreSoon, AreWithin, HolesAreHeld, IsHandedIn, IsHeldBySome, IsTimelySession, Sizes, there, wanting}
+use Rattle.wb_kept_progress.proofs.CallParts.{lacked_until}
 use Rattle.wb_kept_progress.proofs.Coming.{missing_below, named_in}
 use Rattle.wb_kept_progress.proofs.Beats.{ByReport, ByTurn, Kind, state_of, states_after}
 use Rattle.wb_kept_progress.proofs.OwedAndDue.{beat_there}
@@ -44,7 +44,7 @@ use Rattle.wb_kept_progress.proofs.WantedIn.{IsAskedInCall, LacksCredit}
 use Rattle.wb_kept_progress.proofs.WantingCalls.{wanting_in_call}
 use Rattle.wb_kept_progress.proofs.WholeParts.{HeldWasHeld, IsStill, IsWanting, LackIsWanted}
 use Rattle.wb_kept_progress.proofs.Leaving.{told_of}
-use Rattle.wb_progress.proofs.Parts.{tails}
+use Rattle.wb_progress.proofs.Parts.{before_end as ends_before, tails}
 
 -- ---- spans
 
@@ -57,20 +57,20 @@ more_turns numbers holes all le = mul-le-mul (le_refl (2 * numbers)) le
 -- ---- a call within a window
 
 -- a call that comes before the end of a window comes in it
-within : (newest front later between rest : List TimedLine) (call : TimedLine) → AreCalledInOrder (newest ++ (front ++ rest))
-    → newest ++ front ≡ later ++ call ∷ between → call.time < called_at (front ++ rest) → (c : List TimedLine) × (front ≡ c ++ call ∷ between)
+within : (newest front later between rest : List (At KeptLine)) (call : At KeptLine) → AreInOrder (newest ++ (front ++ rest))
+    → newest ++ front ≡ later ++ call ∷ between → call.time < time_of (front ++ rest) → (c : List (At KeptLine)) × (front ≡ c ++ call ∷ between)
 within [] front later between rest call order split lt = (later, split)
 within (x ∷ newest) front [] between rest call order split lt =
     let same : x ≡ call = cc in
-    let end = calls_end (x ∷ newest) (front ++ rest) order in
-    let time : x.time ≡ call.time = ap (λ (y : TimedLine). y.time) same in
+    let end = ends_before (x ∷ newest) (front ++ rest) order in
+    let time : x.time ≡ call.time = ap (λ (y : At KeptLine). y.time) same in
     absurd (omega (arith, end, lt, time))
 within (x ∷ newest) front (y ∷ later) between rest call order split lt =
     within newest front later between rest call order.1 (tails x y (newest ++ front) (later ++ call ∷ between) split) lt
 
-module _ (was_held : HeldWasHeld) (hosts : ℕ → Opening) (terms : Terms) (trace newest window base : List TimedLine) (sizes : Sizes) (most : ℕ)
+module _ (was_held : HeldWasHeld) (hosts : ℕ → Opening) (terms : Terms) (trace newest window base : List (At KeptLine)) (sizes : Sizes) (most : ℕ)
     (s : IsTimelySession hosts terms trace) (small : AreWithin hosts terms trace sizes) (soonest : AreSoon hosts terms trace sizes most)
-    (still : IsStill hosts terms trace newest window base) (settled : settled_by terms < called_at base) (behind_since : sizes.since ≤ called_at base) (from : ℕ) (since : called_at base ≤ from) where
+    (still : IsStill hosts terms trace newest window base) (settled : settled_by terms < time_of base) (behind_since : sizes.since ≤ time_of base) (from : ℕ) (since : time_of base ≤ from) where
   -- how soon the next report, or the next turn, is due, and since when; the longest from one to the next
   abbrev pause : Kind → ℕ
   pause ByReport = sizes.pause
@@ -94,10 +94,10 @@ module _ (was_held : HeldWasHeld) (hosts : ℕ → Opening) (terms : Terms) (tra
   abbrev by : ℕ
   by = from + wanting terms sizes
 
-  quiet : terms.quiet < called_at base
+  quiet : terms.quiet < time_of base
   quiet = omega (arith, settled)
 
-  behind_first : (kind : Kind) → since_of kind ≤ called_at base
+  behind_first : (kind : Kind) → since_of kind ≤ time_of base
   behind_first ByReport = behind_since
   behind_first ByTurn = let q = quiet in omega (arith, q)
 
@@ -119,10 +119,10 @@ module _ (was_held : HeldWasHeld) (hosts : ℕ → Opening) (terms : Terms) (tra
     abbrev NextAt : (count : ℕ) → BehindAt count → Type 0
     NextAt count p = First hosts terms trace s k live kind p.front p.part
 
-    behind_at : (count : ℕ) → from + count * span kind < called_at (window ++ base) → BehindAt count
+    behind_at : (count : ℕ) → from + count * span kind < time_of (window ++ base) → BehindAt count
     behind_at count lt = is_behind kind hosts terms trace newest window base (since_of kind) (pause kind) s (within_pause kind) still quiet (behind_first kind) k live from since count lt
 
-    next_at : (count : ℕ) (p : BehindAt count) → from + suc count * span kind < called_at (window ++ base)
+    next_at : (count : ℕ) (p : BehindAt count) → from + suc count * span kind < time_of (window ++ base)
         → (r : NextAt count p) × (r.e.time ≤ from + suc count * span kind)
     next_at count p lt = next_behind kind hosts terms trace newest window base (since_of kind) (pause kind) s (within_pause kind) still quiet (behind_first kind) k live from since count p lt
 
@@ -161,18 +161,18 @@ module _ (was_held : HeldWasHeld) (hosts : ℕ → Opening) (terms : Terms) (tra
 
   cut_split : (c : IsCut window base from) → trace ≡ (newest ++ c.front) ++ (c.grown ++ base)
   cut_split c =
-      still.split ∙ ap (λ (t : List TimedLine). newest ++ (t ++ base)) c.split
-      ∙ ap (λ (t : List TimedLine). newest ++ t) (append_assoc c.front c.grown base) ∙ sym (append_assoc newest c.front (c.grown ++ base))
+      still.split ∙ ap (λ (t : List (At KeptLine)). newest ++ (t ++ base)) c.split
+      ∙ ap (λ (t : List (At KeptLine)). newest ++ t) (append_assoc c.front c.grown base) ∙ sym (append_assoc newest c.front (c.grown ++ base))
 
-  cut_quiet : (c : IsCut window base from) → terms.quiet < called_at (c.grown ++ base)
+  cut_quiet : (c : IsCut window base from) → terms.quiet < time_of (c.grown ++ base)
   cut_quiet c = quiet_behind hosts terms trace s (newest ++ c.front) c.grown base (cut_split c) quiet
 
-  module _ (before_end : by < called_at (window ++ base)) (i : ℕ) (live : Contains terms.live i) where
+  module _ (before_end : by < time_of (window ++ base)) (i : ℕ) (live : Contains terms.live i) where
     -- `count` + 1 of them come before the end
-    in_time : (kind : Kind) (count : ℕ) → suc count * span kind ≤ enough → from + suc count * span kind < called_at (window ++ base)
+    in_time : (kind : Kind) (count : ℕ) → suc count * span kind ≤ enough → from + suc count * span kind < time_of (window ++ base)
     in_time kind count le = omega (arith, le, before_end)
 
-    in_time_at_least : (kind : Kind) (count : ℕ) → suc count * span kind ≤ enough → from + count * span kind < called_at (window ++ base)
+    in_time_at_least : (kind : Kind) (count : ℕ) → suc count * span kind ≤ enough → from + count * span kind < time_of (window ++ base)
     in_time_at_least kind count le = let n = more_spans count (suc count) (span kind) (omega arith) in omega (arith, le, n, before_end)
 
     -- ---- the turn of a number that is missing
@@ -298,14 +298,14 @@ module _ (was_held : HeldWasHeld) (hosts : ℕ → Opening) (terms : Terms) (tra
         handed_in count t b r soon h =
             wanting_in_call hosts terms trace i top_name held window base c.0
             (h.between ++ r.e ∷ (r.between ++ b.grown)) older h.call from by split_w is_w
-            (eq-eqb h.call.at.place i h.place) now_is wants behind in_by where
-              more : List TimedLine
+            (eq-eqb h.call.place i h.place) now_is wants behind in_by where
+              more : List (At KeptLine)
               more = r.e ∷ r.between
 
-              part : List TimedLine
+              part : List (At KeptLine)
               part = more ++ b.part
 
-              older : List TimedLine
+              older : List (At KeptLine)
               older = h.between ++ part
 
               k : Keeping
@@ -320,33 +320,33 @@ module _ (was_held : HeldWasHeld) (hosts : ℕ → Opening) (terms : Terms) (tra
               st_later : IsStill hosts terms trace newest r.later part
               st_later = still_older hosts terms trace newest r.later more b.part st_all
 
-              last : called_at (window ++ base) ≡ called_at (r.later ++ part)
-              last = ap called_at (ap (λ (t : List TimedLine). t ++ base) (window_next ByReport j live_j count b r) ∙ append_assoc r.later (more ++ b.grown) base
-                  ∙ ap (λ (t : List TimedLine). r.later ++ r.e ∷ t) (sym (before_next ByReport j live_j count b r)))
+              last : time_of (window ++ base) ≡ time_of (r.later ++ part)
+              last = ap time_of (ap (λ (t : List (At KeptLine)). t ++ base) (window_next ByReport j live_j count b r) ∙ append_assoc r.later (more ++ b.grown) base
+                  ∙ ap (λ (t : List (At KeptLine)). r.later ++ r.e ∷ t) (sym (before_next ByReport j live_j count b r)))
 
               in_by : h.call.time ≤ by
               in_by = let at = h.soon in let m = t.fits in omega (arith, at, soon, m)
 
-              order : AreCalledInOrder (newest ++ (r.later ++ part))
-              order = subst AreCalledInOrder st_later.split s.order
+              order : AreInOrder (newest ++ (r.later ++ part))
+              order = subst AreInOrder st_later.split s.order
 
-              c : (c : List TimedLine) × (r.later ≡ c ++ h.call ∷ h.between)
+              c : (c : List (At KeptLine)) × (r.later ≡ c ++ h.call ∷ h.between)
               c = within newest r.later h.later h.between part h.call order h.split (let le = in_by in let e = last in omega (arith, le, before_end, e))
 
               split_w : window ≡ c.0 ++ h.call ∷ (h.between ++ (more ++ b.grown))
               split_w =
-                  window_next ByReport j live_j count b r ∙ ap (λ (t : List TimedLine). t ++ (more ++ b.grown)) c.1
+                  window_next ByReport j live_j count b r ∙ ap (λ (t : List (At KeptLine)). t ++ (more ++ b.grown)) c.1
                   ∙ append_assoc c.0 (h.call ∷ h.between) (more ++ b.grown)
 
               is_w : older ≡ (h.between ++ (more ++ b.grown)) ++ base
-              is_w = ap (λ (t : List TimedLine). h.between ++ r.e ∷ t) (before_next ByReport j live_j count b r) ∙ sym (append_assoc h.between (more ++ b.grown) base)
+              is_w = ap (λ (t : List (At KeptLine)). h.between ++ r.e ∷ t) (before_next ByReport j live_j count b r) ∙ sym (append_assoc h.between (more ++ b.grown) base)
 
               whole : trace ≡ (newest ++ c.0) ++ h.call ∷ older
               whole =
-                  st_later.split ∙ ap (λ (t : List TimedLine). newest ++ (t ++ part)) c.1
-                  ∙ ap (λ (t : List TimedLine). newest ++ t) (append_assoc c.0 (h.call ∷ h.between) part) ∙ sym (append_assoc newest c.0 (h.call ∷ older))
+                  st_later.split ∙ ap (λ (t : List (At KeptLine)). newest ++ (t ++ part)) c.1
+                  ∙ ap (λ (t : List (At KeptLine)). newest ++ t) (append_assoc c.0 (h.call ∷ h.between) part) ∙ sym (append_assoc newest c.0 (h.call ∷ older))
 
-              quiet_older : terms.quiet < called_at older
+              quiet_older : terms.quiet < time_of older
               quiet_older =
                   quiet_before hosts terms trace s (newest ++ c.0) h.between part h.call whole
                   (quiet_behind hosts terms trace s (newest ++ r.later) more b.part (split_next ByReport j live_j count b r) b.quiet)
@@ -377,7 +377,7 @@ module _ (was_held : HeldWasHeld) (hosts : ℕ → Opening) (terms : Terms) (tra
 
               other : kj.host.is.number ≡ k.host.is.number → ⊥
               other e =
-                  differ (s.distinct j i (sym (of_opening hosts (lines_of (r.between ++ b.part)) j).number ∙ e ∙ (of_opening hosts (lines_of older) i).number))
+                  differ (s.distinct j i (sym (of_opening hosts (r.between ++ b.part) j).number ∙ e ∙ (of_opening hosts older i).number))
 
               report : Datagram
               report = told_in j live_j count b r
@@ -386,23 +386,23 @@ module _ (was_held : HeldWasHeld) (hosts : ℕ → Opening) (terms : Terms) (tra
               told_so =
                   told_wants k h.now kj.host.is.number r.comes.moment told_page marks r.comes.echoes other top_name
                   (in_names k.host.is.number told_page marks page_is among) (record {
-                    answers_held = answers_at hosts (lines_of older) i;
+                    answers_held = answers_at hosts older i;
                     lacks = ap (λ (x : List DrawopValue). holds x top_name) k_held ∙ lacks;
                     room = room_there hosts terms trace s (newest ++ c.0) older h.call i whole live quiet_older;
                   })
 
-              wants : IsAskedInCall top_name (doing_of h.call.at.line) k ⊎ LacksCredit (after_doing (doing_of h.call.at.line) k)
+              wants : IsAskedInCall top_name (doing_of h.call.event) k ⊎ LacksCredit (after_doing (doing_of h.call.event) k)
               wants = subst (λ (line : KeptLine). IsAskedInCall top_name (doing_of line) k ⊎ LacksCredit (after_doing (doing_of line) k)) (sym h.is) told_so
 
-              now_is : IsNowAt terms h.call.time i (present (after_doing (doing_of h.call.at.line) k).host)
+              now_is : IsNowAt terms h.call.time i (present (after_doing (doing_of h.call.event) k).host)
               now_is = subst (IsNowAt terms h.call.time i)
                   (sym (ap (λ (line : KeptLine). present (after_doing (doing_of line) k).host) h.is ∙ came_now h.now report k))
-                  (subst (SaysNow terms h.call.time i) h.is (told_there hosts terms trace s (newest ++ c.0) older h.call i whole live (eq-eqb h.call.at.place i h.place)))
+                  (subst (SaysNow terms h.call.time i) h.is (told_there hosts terms trace s (newest ++ c.0) older h.call i whole live (eq-eqb h.call.place i h.place)))
 
               behind : from < h.call.time
               behind =
                   let first = b.behind r.later r.between r.e r.split in
-                  let end = calls_end (h.call ∷ h.between) part (ordered hosts terms trace s (newest ++ c.0) (h.call ∷ older) whole) in
+                  let end = ends_before (h.call ∷ h.between) part (ordered hosts terms trace s (newest ++ c.0) (h.call ∷ older) whole) in
                   omega (arith, first, end)
 
         by_report : WantedBy i
@@ -417,14 +417,14 @@ module _ (was_held : HeldWasHeld) (hosts : ℕ → Opening) (terms : Terms) (tra
                   → r.e.time ≤ from + suc count * span ByReport → WantedBy i
               told_by count t b r soon =
                   let older = r.between ++ b.part in
-                  let at_j : r.e.at.place ≡ j = eqb-true r.e.at.place j r.place in
+                  let at_j : r.e.place ≡ j = eqb-true r.e.place j r.place in
                   let sent =
-                  subst (λ (p : ℕ). Contains (sent_by_doing (doing_of r.e.at.line) (there hosts older p)) (told_in j live_j count b r))
+                  subst (λ (p : ℕ). Contains (sent_by_doing (doing_of r.e.event) (there hosts older p)) (told_in j live_j count b r))
                   (sym at_j) r.comes.sends in
                   let first = b.behind r.later r.between r.e r.split in
                   let m = t.fits in
-                  let end = calls_end newest (window ++ base) (subst AreCalledInOrder still.split s.order) in
-                  let last = ap called_at still.split in
+                  let end = ends_before newest (window ++ base) (subst AreInOrder still.split s.order) in
+                  let last = ap time_of still.split in
                   let q = quiet in
                   handed_in count t b r soon
                   (reports_come hosts (newest ++ r.later) (r.e ∷ older) i (r.e.time + terms.delivery) (told_in j live_j count b r) refl (s.delivered (newest ++ r.later) older r.e i (told_in j live_j count b r) (split_next ByReport j live_j count b r) live (λ same. differ (sym at_j ∙ same))
@@ -456,8 +456,8 @@ module _ (was_held : HeldWasHeld) (hosts : ℕ → Opening) (terms : Terms) (tra
             by_now : (b : Bool) → holds (held_by j) n ≡ b → b ≡ true
             by_now true e = refl
             by_now false e =
-                let before = lacked_until hosts (newest ++ window) base (settled_by terms) j n (subst AreCalledInOrder split_base s.order) settled e in
-                absurd (true≢false (sym has ∙ ap (λ (t : List TimedLine). holds (host_after (λ k. start_of (hosts k)) (until (settled_by terms) (performed hosts t)) j).is.held n) split_base ∙ before))
+                let before = lacked_until hosts (newest ++ window) base (settled_by terms) j n (subst AreInOrder split_base s.order) settled e in
+                absurd (true≢false (sym has ∙ ap (λ (t : List (At KeptLine)). holds (host_after (λ k. start_of (hosts k)) (until (settled_by terms) (performed hosts t)) j).is.held n) split_base ∙ before))
 
             holds_j : holds (held_by j) n ≡ true
             holds_j = by_now (holds (held_by j) n) refl
@@ -489,6 +489,6 @@ module _ (was_held : HeldWasHeld) (hosts : ℕ → Opening) (terms : Terms) (tra
 pub lack_is_wanted : HeldWasHeld → LackIsWanted
 lack_is_wanted was_held hosts terms trace newest window base sizes wait most i from n all still late live held lacks since before_end =
     lack_is_wanted_here was_held hosts terms trace newest window base sizes most all.session all.within all.soon still
-    (settled terms (called_at base) wait late.known) late.since from since before_end i live n held lacks where
+    (settled terms (time_of base) wait late.known) late.since from since before_end i live n held lacks where
       settled : (terms : Terms) (time wait : ℕ) → known_from terms + wait + repairing terms ≤ time → settled_by terms < time
       settled terms time wait le = omega (arith, le)

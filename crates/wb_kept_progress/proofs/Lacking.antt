@@ -17,12 +17,13 @@ use Rattle.wb_member.specs.declared.calls.Call.TheVariants.{Stop}
 use Rattle.wb_keeping.specs.Kept.{Line, Calls}
 use Rattle.wb_kept_progress.specs.Examples.{Meets, drawn, hosts, sizes_in, terms_of}
 use Rattle.wb_kept_progress.specs.Rounds.{OneLacksAtMost, PlacesAreFilled}
-use Rattle.wb_kept_progress.specs.Timed.{Performed, TimedLine, called_at, host_after, performed, start_of, timers_after, until}
+use Rattle.wb_kept_progress.specs.Timed.{At, host_after, performed, start_of, time_of, timers_after, until}
 use Rattle.wb_kept_progress.specs.Whole.{AreWithin, IsHeldBySome, IsLackedAt, IsTimelySession, Lack, LackAtMost, NewAreKept, ReportWithin, WaitAtMost, there}
 use Rattle.wb_kept_progress.proofs.OwedAndDue.{reports_are_due}
 use Rattle.wb_kept_progress.proofs.Promised.{all_are_soon}
 use Rattle.wb_kept_progress.proofs.Tested.{Begins, all_fit, in_middle, passes, session_of, within_of}
 use Rattle.wb_kept_progress.proofs.Testing.{each, each-at, parts, parts-at, two_live}
+use Rattle.wb_keeping.specs.Laws.{KeptLine}
 
 -- ---- lists of one thing
 
@@ -39,7 +40,7 @@ abbrev is_stop : Line → Bool
 is_stop (Calls (Stop name)) = true
 is_stop line = false
 
-module _ (terms : Terms) (trace : List TimedLine) where
+module _ (terms : Terms) (trace : List (At KeptLine)) where
   -- a host once what was on its way has arrived
   abbrev then_host : ℕ → Opened
   then_host i = host_after (λ j. start_of (hosts j)) (until (settled_by terms) (performed hosts trace)) i
@@ -54,11 +55,11 @@ module _ (terms : Terms) (trace : List TimedLine) where
   waits_for_it i = is_none (timers_after (λ j. start_of (hosts j)) (until (known_from terms) (performed hosts trace)) i drawn).ask
 
   module _ (since : ℕ) where
-    abbrev pub asks_for_it : List TimedLine → Bool
-    asks_for_it part = nat_lt (called_at part) since || each (λ i. holds (there hosts part i).host drawn || asks_for drawn (there hosts part i).host) terms.live
+    abbrev pub asks_for_it : List (At KeptLine) → Bool
+    asks_for_it part = nat_lt (time_of part) since || each (λ i. holds (there hosts part i).host drawn || asks_for drawn (there hosts part i).host) terms.live
 
-    abbrev pub stops_none : Performed → Bool
-    stops_none x = nat_le x.time since || not (is_stop x.line)
+    abbrev pub stops_none : At Line → Bool
+    stops_none x = nat_le x.time since || not (is_stop x.event)
 
   -- it is the only name that is held
   module _ (only : each only_it terms.live ≡ true) where
@@ -104,9 +105,9 @@ module _ (terms : Terms) (trace : List TimedLine) where
 
           all : here ≡ true
           all = ⊎_elim
-              (λ (early : nat_lt (called_at older) since ≡ true). let lt = ltb-true _ _ early in absurd (omega (arith, lt, late)))
+              (λ (early : nat_lt (time_of older) since ≡ true). let lt = ltb-true _ _ early in absurd (omega (arith, lt, late)))
               (λ (is : here ≡ true). is)
-              (or_cases (nat_lt (called_at older) since) here (parts-at (asks_for_it since) trace newer older filled split))
+              (or_cases (nat_lt (time_of older) since) here (parts-at (asks_for_it since) trace newer older filled split))
 
           asks : asks_for drawn (there hosts older i).host ≡ true
           asks = ⊎_elim
@@ -118,7 +119,7 @@ module _ (terms : Terms) (trace : List TimedLine) where
   pub none_stops : (since : ℕ) → each (stops_none since) (performed hosts trace) ≡ true → NewAreKept hosts terms trace since
   none_stops since none front back x n ask split live late line stands = absurd (⊎_elim
       (λ (early : nat_le x.time since ≡ true). let le = leb-true _ _ early in omega (arith, le, late))
-      (λ (other : not (is_stop x.line) ≡ true). true≢false (sym (subst (λ (l : Line). not (is_stop l) ≡ true) line other)))
+      (λ (other : not (is_stop x.event) ≡ true). true≢false (sym (subst (λ (l : Line). not (is_stop l) ≡ true) line other)))
       (or_cases (nat_le x.time since) _ (each-at (stops_none since) (performed hosts trace) x none (in_middle (performed hosts trace) front x back split))))
 
   -- ---- tests of all that
@@ -140,7 +141,7 @@ pub record AreSmall (quiet late drift since : ℕ) (lag : ℕ → ℕ) : Type 0 
   pub short : 4000000 + late + drift ≤ 60000000
   pub settled : quiet ≤ since
 
-module _ (quiet late drift since : ℕ) (lag : ℕ → ℕ) (trace : List TimedLine) (small : AreSmall quiet late drift since lag) where
+module _ (quiet late drift since : ℕ) (lag : ℕ → ℕ) (trace : List (At KeptLine)) (small : AreSmall quiet late drift since lag) where
   abbrev T : Terms
   T = terms_of quiet late drift lag
 
@@ -218,6 +219,6 @@ module _ (quiet late drift since : ℕ) (lag : ℕ → ℕ) (trace : List TimedL
 
     reports : ReportWithin hosts T trace since (sizes_in T).pause
     reports newer older i split live =
-        let le : (there hosts older i).policy.reports.due + lag i ≤ max (called_at older) quiet + 96000000 = reports_are_due hosts T trace p.session newer older i split live in
+        let le : (there hosts older i).policy.reports.due + lag i ≤ max (time_of older) quiet + 96000000 = reports_are_due hosts T trace p.session newer older i split live in
         let later = small.settled in
         omega (arith, le, later)

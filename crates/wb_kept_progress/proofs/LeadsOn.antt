@@ -26,7 +26,7 @@ use Rattle.wb_policy.specs.declared.limits.TheConstants.{COST}
 use Rattle.wb_policy.proofs.NearNumbers.{each_near, near_is_among}
 use Rattle.wb_keeping.specs.Fairness.{AnswersWhatIsHeld}
 use Rattle.wb_keeping.specs.Kept.{Arrives, Calls, Doing, and_then, came, leaps_on, learned, paid_for, performs, takes, timed, turn_if, turns_past, want_near}
-use Rattle.wb_keeping.specs.Laws.{Came, Tuned, fault_of}
+use Rattle.wb_keeping.specs.Laws.{Came, KeptLine, Tuned, fault_of}
 use Rattle.wb_keeping.specs.Performing.{Keeping, after_doing, sees, view_of}
 use Rattle.wb_keeping.specs.Views.{is_asked}
 use Rattle.wb_keeping.proofs.AskedTimers.{level_seen}
@@ -36,7 +36,7 @@ use Rattle.wb_keeping.proofs.Performed.{then_after}
 use Rattle.wb_keeping.proofs.StandingTimers.{is_some_level, keeps, stands_asked}
 use Rattle.wb_keeping.proofs.Wanted.{learned_room}
 use Rattle.wb_kept_progress.specs.LeadsOn.{AskedLeadsOn, AsksForMissing, IsAskedBy, IsMissingAt, IsNeighbour, IsNew, IsShort, NeighboursAreAskedFor, with_drawop}
-use Rattle.wb_kept_progress.specs.Sessions.{LineAt, Opening, kept_at}
+use Rattle.wb_kept_progress.specs.Sessions.{At, Opening, kept_at}
 use Rattle.wb_kept_progress.proofs.Leaving.{answers_on}
 use Rattle.wb_kept_progress.proofs.Lines.{IsSmall, are_small, does_rest, lines_grow, lines_of}
 use Rattle.wb_kept_progress.proofs.Moments.{IsTuned}
@@ -64,7 +64,7 @@ room_before one next longer cells room = false_from_ne_true (is_full one) (λ e.
     let full = leb-true one.is.cells (length one.is.held) e in
     true≢false (sym (le-leb next.is.cells (length next.is.held) (omega (arith, full, longer, cells))) ∙ room))
 
-module _ (hosts : ℕ → Opening) (older : List LineAt) (i now : ℕ) (d : DrawopValue) (new : IsNew hosts older i now d) where
+module _ (hosts : ℕ → Opening) (older : List (At KeptLine)) (i now : ℕ) (d : DrawopValue) (new : IsNew hosts older i now d) where
   abbrev pub k : Keeping
   k = kept_at hosts older i
 

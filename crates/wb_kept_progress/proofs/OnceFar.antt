@@ -10,10 +10,11 @@ use Rattle.wb_policy.specs.Words as words
 use Rattle.wb_keeping.specs.Kept.{leaps_on, turns_on}
 use Rattle.wb_kept_progress.specs.Examples.{drawn, hosts}
 use Rattle.wb_kept_progress.specs.OnceFar.{OnceFarMeets, once_far, once_far_lines}
-use Rattle.wb_kept_progress.specs.Whole.{AreCalledInOrder, there}
+use Rattle.wb_kept_progress.specs.Whole.{there}
 use Rattle.wb_kept_progress.proofs.StandTested.{early, near_since, short_of, stands_at, stood, there_stands}
 use Rattle.wb_kept_progress.proofs.Tested.{Begins, passes, session_of}
 use Rattle.wb_kept_progress.proofs.Testing.{two_live}
+use Rattle.wb_kept_progress.specs.Timed.{AreInOrder}
 
 -- ---- what computes
 
@@ -57,7 +58,7 @@ begins = record {
   by : (i j : ℕ) → 10 + i ≡ 10 + j → i ≡ j
   by i j same = omega (arith, same)
 
-in_order : AreCalledInOrder once_far_lines
+in_order : AreInOrder once_far_lines
 in_order = (session_of hosts once_far {Delays = Unit {0}} once_far_lines begins tt keeps).order
 
 long_timer : (o : Option AskTimer) → is_long o ≡ true → (ask : AskTimer) × (o ≡ Some ask) × (once_far.far < ask.delay)

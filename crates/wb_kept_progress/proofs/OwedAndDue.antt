@@ -1,6 +1,6 @@
 -- What is owed is at most 16 seconds ahead of the present moment, the next report is due within 96 seconds of it, and the next turn within 16.
 use Rattle.std.proofs.Common.{◌≡◌, ℕ, ◌+◌, ◌-◌, ◌*◌, ◌<◌, ◌≤◌, Bool, true, false, cond, List, [], ◌∷◌, ◌++◌, ◌∙◌, ap, append_assoc, arith, eqb-true, map, max, refl, subst, sym, ⊎_elim, length}
-use Rattle.std.specs.Prelude.{◌%◌, Contains, None, nat_eq, not, take, ◌||◌}
+use Rattle.std.specs.Prelude.{◌%◌, Contains, None, nat_eq, take, ◌||◌}
 use Rattle.std.proofs.lemmas.Bool.{leb-true}
 use Rattle.wb_names.specs.Values.{NameValue}
 use Rattle.wb_codec.specs.declared.datagram.Datagram.{Datagram}
@@ -10,7 +10,7 @@ use Rattle.wb_member.specs.Opened.{has_room_for, heard, present}
 use Rattle.wb_member.specs.declared.calls.Call.TheVariants.{Tick, Hear}
 use Rattle.wb_policy.specs.declared.limits.TheConstants.{COST}
 use Rattle.wb_keeping.specs.Kept.{Calls, Doing, Line, Says, state_of, still, want}
-use Rattle.wb_keeping.specs.Laws.{doing_of, fault_of}
+use Rattle.wb_keeping.specs.Laws.{KeptLine, doing_of, fault_of}
 use Rattle.wb_keeping.specs.Performing.{Keeping, after_doing, sees, view_of}
 use Rattle.wb_policy.specs.Pace.{gap_within}
 use Rattle.wb_policy.specs.Policy.{after_answer, after_wanting}
@@ -22,15 +22,16 @@ use Rattle.wb_policy.proofs.Spending.{has_place}
 use Rattle.wb_keeping.proofs.EachStep.{HoldsOfSteps, doing, having, having_done, line_holds}
 use Rattle.wb_keeping.proofs.Saying.{says_after}
 use Rattle.wb_keeping.proofs.Wanted.{lines_wanted, parts_wanted}
-use Rattle.wb_kept_progress.specs.Sessions.{AreTaken, LineAt, Opening, kept_at, opened, opened_host}
-use Rattle.wb_kept_progress.specs.Timed.{SaysNow, TellTimes, TimedLine, called_at, lines_of}
+use Rattle.wb_kept_progress.specs.Sessions.{AreTaken, At, Opening, kept_at, opened, opened_host}
+use Rattle.wb_kept_progress.specs.Timed.{AreInOrder, SaysNow, TellTimes, time_of}
 use Rattle.wb_kept_progress.proofs.Moments.{IsTuned, moment_of, told_itself, told_or_tuned}
-use Rattle.wb_kept_progress.specs.Whole.{AreCalledInOrder, IsTimelySession, ReportsAreDue, there}
-use Rattle.wb_kept_progress.proofs.CallParts.{calls_order, due_by_turn}
+use Rattle.wb_kept_progress.specs.Whole.{IsTimelySession, ReportsAreDue, there}
+use Rattle.wb_kept_progress.proofs.CallParts.{due_by_turn}
 use Rattle.wb_kept_progress.proofs.Lines.{IsSmall, are_small, does_rest}
 use Rattle.wb_kept_progress.proofs.StillCalls.{IsTuning, call_now, tuned_only}
 use Rattle.wb_keeping.proofs.EachLine.{want_each}
 use Rattle.wb_kept_progress.proofs.Leaving.{next_soon}
+use Rattle.wb_progress.proofs.Parts.{order_of}
 
 -- ---- each step of a policy
 
@@ -131,67 +132,67 @@ begins_near o = record { owed = omega arith; due = soon (present (opened_host o)
   soon : (now word : ℕ) → now + word % (1000000 + 1) ≤ now + 96000000
   soon now word = omega arith
 
-pub near_at : (hosts : ℕ → Opening) (lines : List LineAt) (i : ℕ) → AreTaken hosts lines → IsNearNow (kept_at hosts lines i)
+pub near_at : (hosts : ℕ → Opening) (lines : List (At KeptLine)) (i : ℕ) → AreTaken hosts lines → IsNearNow (kept_at hosts lines i)
 near_at hosts [] i taken = begins_near (hosts i)
 near_at hosts (e ∷ older) i taken = by (near_at hosts older i taken.1) (nat_eq e.place i) refl where
   by : IsNearNow (kept_at hosts older i) → (b : Bool) → nat_eq e.place i ≡ b
-      → IsNearNow (cond b (after_doing (doing_of e.line) (kept_at hosts older i)) (kept_at hosts older i))
+      → IsNearNow (cond b (after_doing (doing_of e.event) (kept_at hosts older i)) (kept_at hosts older i))
   by near false other = near
   by near true same =
-      let none = subst (λ (p : ℕ). fault_of e.line (kept_at hosts older p) ≡ None) (eqb-true e.place i same) taken.0 in
-      (line_holds StaysNear steps_stay_near e.line (kept_at hosts older i) none).near near
+      let none = subst (λ (p : ℕ). fault_of e.event (kept_at hosts older p) ≡ None) (eqb-true e.place i same) taken.0 in
+      (line_holds StaysNear steps_stay_near e.event (kept_at hosts older i) none).near near
 
-pub taken_of : (hosts : ℕ → Opening) (newer older : List TimedLine) → AreTaken hosts (lines_of (newer ++ older)) → AreTaken hosts (lines_of older)
+pub taken_of : (hosts : ℕ → Opening) (newer older : List (At KeptLine)) → AreTaken hosts (newer ++ older) → AreTaken hosts older
 taken_of hosts [] older taken = taken
 taken_of hosts (e ∷ newer) older taken = taken_of hosts newer older taken.1
 
-pub tells_of : (terms : Terms) (newer older : List TimedLine) → TellTimes terms (newer ++ older) → TellTimes terms older
+pub tells_of : (terms : Terms) (newer older : List (At KeptLine)) → TellTimes terms (newer ++ older) → TellTimes terms older
 tells_of terms [] older tells = tells
 tells_of terms (e ∷ newer) older tells = tells_of terms newer older tells.1
 
 -- the clock of a host is not ahead of the newest call, or of the quiet time until the first one
-pub present_by : (hosts : ℕ → Opening) (terms : Terms) (calls : List TimedLine) (i : ℕ) → Contains terms.live i → present (opened (hosts i)).host + terms.lag i ≤ terms.quiet → AreCalledInOrder calls
-    → TellTimes terms calls → present (there hosts calls i).host + terms.lag i ≤ max (called_at calls) terms.quiet
+pub present_by : (hosts : ℕ → Opening) (terms : Terms) (calls : List (At KeptLine)) (i : ℕ) → Contains terms.live i → present (opened (hosts i)).host + terms.lag i ≤ terms.quiet → AreInOrder calls
+    → TellTimes terms calls → present (there hosts calls i).host + terms.lag i ≤ max (time_of calls) terms.quiet
 present_by hosts terms [] i live begun order tells = omega (arith, begun)
-present_by hosts terms (e ∷ older) i live begun order tells = by (present_by hosts terms older i live begun order.1 tells.1) (nat_eq e.at.place i) refl where
+present_by hosts terms (e ∷ older) i live begun order tells = by (present_by hosts terms older i live begun order.1 tells.1) (nat_eq e.place i) refl where
   k : Keeping
   k = there hosts older i
 
-  by : present k.host + terms.lag i ≤ max (called_at older) terms.quiet → (b : Bool) → nat_eq e.at.place i ≡ b
-      → present (cond b (after_doing (doing_of e.at.line) k) k).host + terms.lag i ≤ max e.time terms.quiet
+  by : present k.host + terms.lag i ≤ max (time_of older) terms.quiet → (b : Bool) → nat_eq e.place i ≡ b
+      → present (cond b (after_doing (doing_of e.event) k) k).host + terms.lag i ≤ max e.time terms.quiet
   by le false other = let o = order.0 in omega (arith, le, o)
   by le true same =
-      let told = subst (λ (p : ℕ). Contains terms.live p → SaysNow terms e.time p e.at.line) (eqb-true e.at.place i same) tells.0 live in
-      let tuning : IsTuning (doing_of e.at.line) k → present (after_doing (doing_of e.at.line) k).host + terms.lag i ≤ max e.time terms.quiet = λ t. let now = t.now_is in let o = order.0 in omega (arith, now, le, o) in
+      let told = subst (λ (p : ℕ). Contains terms.live p → SaysNow terms e.time p e.event) (eqb-true e.place i same) tells.0 live in
+      let tuning : IsTuning (doing_of e.event) k → present (after_doing (doing_of e.event) k).host + terms.lag i ≤ max e.time terms.quiet = λ t. let now = t.now_is in let o = order.0 in omega (arith, now, le, o) in
       ⊎_elim
-      (λ (t : IsTuned e.at.line). tuning (tuned_only e.at.line k t))
-      (λ (at : IsNowAt terms e.time i (moment_of e.at.line)). ⊎_elim
+      (λ (t : IsTuned e.event). tuning (tuned_only e.event k t))
+      (λ (at : IsNowAt terms e.time i (moment_of e.event)). ⊎_elim
       tuning
-      (λ (now : present (after_doing (doing_of e.at.line) k).host ≡ moment_of e.at.line). let ahead = at.not_ahead in omega (arith, now, ahead))
-      (call_now e.at.line k (moment_of e.at.line) (told_itself e.at.line)))
-      (told_or_tuned terms e.time i e.at.line told)
+      (λ (now : present (after_doing (doing_of e.event) k).host ≡ moment_of e.event). let ahead = at.not_ahead in omega (arith, now, ahead))
+      (call_now e.event k (moment_of e.event) (told_itself e.event)))
+      (told_or_tuned terms e.time i e.event told)
 
 -- what is owed at a call, and when the next report is due
-module _ (hosts : ℕ → Opening) (terms : Terms) (trace newer older : List TimedLine) (i : ℕ) (s : IsTimelySession hosts terms trace)
+module _ (hosts : ℕ → Opening) (terms : Terms) (trace newer older : List (At KeptLine)) (i : ℕ) (s : IsTimelySession hosts terms trace)
     (split : trace ≡ newer ++ older) (live : Contains terms.live i) where
   pub near_there : IsNearNow (there hosts older i)
-  near_there = near_at hosts (lines_of older) i (taken_of hosts newer older (subst (λ (t : List TimedLine). AreTaken hosts (lines_of t)) split s.taken))
+  near_there = near_at hosts older i (taken_of hosts newer older (subst (λ (t : List (At KeptLine)). AreTaken hosts t) split s.taken))
 
-  pub now_there : present (there hosts older i).host + terms.lag i ≤ max (called_at older) terms.quiet
+  pub now_there : present (there hosts older i).host + terms.lag i ≤ max (time_of older) terms.quiet
   now_there =
-      present_by hosts terms older i live (s.begun i live) (calls_order newer older (subst AreCalledInOrder split s.order))
+      present_by hosts terms older i live (s.begun i live) (order_of newer older (subst AreInOrder split s.order))
       (tells_of terms newer older (subst (TellTimes terms) split s.times))
 
-  pub due_there : (there hosts older i).policy.reports.due + terms.lag i ≤ max (called_at older) terms.quiet + 96000000
+  pub due_there : (there hosts older i).policy.reports.due + terms.lag i ≤ max (time_of older) terms.quiet + 96000000
   due_there = let n = near_there in let d = n.due in let now = now_there in omega (arith, d, now)
 
   -- and the next turn, within 16 seconds
-  pub beat_there : (there hosts older i).policy.pace.due + terms.lag i ≤ max (called_at older) terms.quiet + 16000000
+  pub beat_there : (there hosts older i).policy.pace.due + terms.lag i ≤ max (time_of older) terms.quiet + 16000000
   beat_there = let n = near_there in let b = n.beat in let now = now_there in omega (arith, b, now)
 
 -- a call comes at most so late behind the one before it
-pub next_by_turn : (hosts : ℕ → Opening) (terms : Terms) (trace newer older : List TimedLine) (e : TimedLine) (i : ℕ) → IsTimelySession hosts terms trace → trace ≡ newer ++ e ∷ older → Contains terms.live i → terms.quiet < e.time
-    → e.time ≤ max (called_at older) terms.quiet + (16000000 + terms.late)
+pub next_by_turn : (hosts : ℕ → Opening) (terms : Terms) (trace newer older : List (At KeptLine)) (e : At KeptLine) (i : ℕ) → IsTimelySession hosts terms trace → trace ≡ newer ++ e ∷ older → Contains terms.live i → terms.quiet < e.time
+    → e.time ≤ max (time_of older) terms.quiet + (16000000 + terms.late)
 next_by_turn hosts terms trace newer older e i s split live late =
     let soon = s.soon newer older e i split live late in
     let turn = due_by_turn (there hosts older i) in

@@ -13,7 +13,7 @@ use Rattle.wb_policy.specs.Credit.{has_credit}
 use Rattle.wb_policy.specs.declared.limits.TheConstants.{COST}
 use Rattle.wb_keeping.specs.Bounds.{ask_count}
 use Rattle.wb_keeping.specs.Kept.{Calls, Doing, Line, Says, state_of, still, want}
-use Rattle.wb_keeping.specs.Laws.{doing_of, expand}
+use Rattle.wb_keeping.specs.Laws.{KeptLine, doing_of, expand}
 use Rattle.wb_keeping.specs.Performing.{Keeping, after_doing, sees, view_of}
 use Rattle.wb_policy.specs.Policy.{after_answer, after_wanting}
 use Rattle.wb_keeping.proofs.EachLine.{want_each}
@@ -21,14 +21,14 @@ use Rattle.wb_keeping.proofs.EachStep.{HoldsOfSteps, all_hold, doing, having, ha
 use Rattle.wb_keeping.proofs.Saying.{says_after}
 use Rattle.wb_keeping.proofs.Wanted.{is_wanted_here, lines_wanted}
 use Rattle.wb_kept_progress.specs.Sessions.{AreTaken, Opening}
-use Rattle.wb_kept_progress.specs.Timed.{TimedLine, lines_of}
+use Rattle.wb_kept_progress.specs.Timed.{AreInOrder, At}
 use Rattle.wb_kept_progress.specs.Topped.{asks_since, asks_then}
-use Rattle.wb_kept_progress.specs.Whole.{AreCalledInOrder, there}
+use Rattle.wb_kept_progress.specs.Whole.{there}
 use Rattle.wb_kept_progress.proofs.AskedInCalls.{wanted_is_asked}
-use Rattle.wb_kept_progress.proofs.CallParts.{calls_end}
 use Rattle.wb_kept_progress.proofs.Handed.{after_handed, asked_both, asks_at_least, asks_both, handed, performs_in, taken_handed}
 use Rattle.wb_kept_progress.proofs.Lines.{IsSmall, are_small, does_rest}
 use Rattle.wb_laws_sessions.proofs.Sending.{one_of}
+use Rattle.wb_progress.proofs.Parts.{before_end}
 
 -- ---- each step of a policy
 
@@ -116,7 +116,7 @@ steps_owe = record {
 -- ---- the calls of one host
 
 module _ (hosts : ℕ → Opening) (i : ℕ) where
-  pub without_credit : (window base : List TimedLine) → AreTaken hosts (lines_of (window ++ base)) → (let m = there hosts (window ++ base) i in
+  pub without_credit : (window base : List (At KeptLine)) → AreTaken hosts (window ++ base) → (let m = there hosts (window ++ base) i in
       has_credit m.policy.owed (present m.host) ≡ false → (there hosts base i).policy.owed ≤ present m.host → 64 ≤ ask_count (performs_in hosts i window base))
   without_credit window base taken none paid =
       let o = all_hold Owes steps_owe (handed i window) (there hosts base i) (taken_handed hosts i window base taken) in
@@ -131,35 +131,35 @@ module _ (hosts : ℕ → Opening) (i : ℕ) where
   -- ---- how often it asks in calls after a time
 
   -- in one call
-  one_call : (e : TimedLine) (base : List TimedLine) (since : ℕ) → since < e.time → ask_count (performs_in hosts i (e ∷ []) base) + asks_since hosts since i base ≡ asks_since hosts since i (e ∷ base)
-  one_call e base since late = by (nat_lt since e.time) (lt-ltb since e.time late) (nat_eq e.at.place i) refl where
+  one_call : (e : At KeptLine) (base : List (At KeptLine)) (since : ℕ) → since < e.time → ask_count (performs_in hosts i (e ∷ []) base) + asks_since hosts since i base ≡ asks_since hosts since i (e ∷ base)
+  one_call e base since late = by (nat_lt since e.time) (lt-ltb since e.time late) (nat_eq e.place i) refl where
     k : Keeping
     k = there hosts base i
 
     rest : ℕ
     rest = asks_since hosts since i base
 
-    by : (a : Bool) → a ≡ true → (b : Bool) → nat_eq e.at.place i ≡ b
-        → ask_count (expand (cond b ([] ++ e.at.line ∷ []) []) k) + rest ≡ cond (a && b) (asks_then hosts base e) 0 + rest
+    by : (a : Bool) → a ≡ true → (b : Bool) → nat_eq e.place i ≡ b
+        → ask_count (expand (cond b ([] ++ e.event ∷ []) []) k) + rest ≡ cond (a && b) (asks_then hosts base e) 0 + rest
     by true is false other = refl
     by true is true here =
-        ap (λ (ls : List Line). ask_count ls + rest) (append-nil (doing_of e.at.line (sees k.host) k.policy).lines)
-        ∙ ap (λ (p : ℕ). ask_count (let m = there hosts base p in (doing_of e.at.line (sees m.host) m.policy).lines) + rest) (sym (eqb-true e.at.place i here))
+        ap (λ (ls : List Line). ask_count ls + rest) (append-nil (doing_of e.event (sees k.host) k.policy).lines)
+        ∙ ap (λ (p : ℕ). ask_count (let m = there hosts base p in (doing_of e.event (sees m.host) m.policy).lines) + rest) (sym (eqb-true e.place i here))
     by false is b other = absurd cc
 
   -- in a window that begins after the time
-  pub asked_since : (window : List TimedLine) (next : TimedLine) (base : List TimedLine) (since : ℕ) → AreCalledInOrder (window ++ next ∷ base) → since < next.time
+  pub asked_since : (window : List (At KeptLine)) (next : At KeptLine) (base : List (At KeptLine)) (since : ℕ) → AreInOrder (window ++ next ∷ base) → since < next.time
       → ask_count (performs_in hosts i (window ++ next ∷ []) base) + asks_since hosts since i base ≡ asks_since hosts since i (window ++ next ∷ base)
   asked_since [] next base since order late = one_call next base since late
   asked_since (e ∷ window) next base since order late =
       let rest = asked_since window next base since order.1 late in
-      let end = calls_end window (next ∷ base) order.1 in
+      let end = before_end window (next ∷ base) order.1 in
       let first = order.0 in
       let whole : (window ++ next ∷ []) ++ base ≡ window ++ next ∷ base = append_one window in
       let here = one_call e (window ++ next ∷ base) since (omega (arith, late, end, first)) in
       let two = asked_both hosts i (e ∷ []) (window ++ next ∷ []) base
-      ∙ ap (λ (l : List TimedLine). ask_count (performs_in hosts i (window ++ next ∷ []) base) + ask_count (performs_in hosts i (e ∷ []) l)) whole in
+      ∙ ap (λ (l : List (At KeptLine)). ask_count (performs_in hosts i (window ++ next ∷ []) base) + ask_count (performs_in hosts i (e ∷ []) l)) whole in
       omega (arith, rest, here, two) where
-        append_one : (window : List TimedLine) → (window ++ next ∷ []) ++ base ≡ window ++ next ∷ base
+        append_one : (window : List (At KeptLine)) → (window ++ next ∷ []) ++ base ≡ window ++ next ∷ base
         append_one [] = refl
-        append_one (x ∷ window) = ap (λ (l : List TimedLine). x ∷ l) (append_one window)
+        append_one (x ∷ window) = ap (λ (l : List (At KeptLine)). x ∷ l) (append_one window)

@@ -36,17 +36,16 @@ use Rattle.wb_policy.specs.declared.limits.TheConstants.{HEARD}
 use Rattle.wb_policy.proofs.Latest.{reports_are_small}
 use Rattle.wb_keeping.specs.Kept.{Calls, Doing, Line, Says, Transition, answers, asks_pages, hears, performs, reports, reports_due, reports_either, reports_rest, state_of, still, timed, turns_due, want, report_echoes}
 use Rattle.wb_keeping.specs.Laws.{KeptLine, Came, Ticked, Added, Tuned, doing_of, fault_of}
-use Rattle.wb_keeping.specs.Performing.{Keeping, after_doing, after_line, after_lines, sees, view_of}
+use Rattle.wb_keeping.specs.Performing.{Keeping, after_doing, after_line, after_lines, sees}
 use Rattle.wb_keeping.specs.Views.{View, is_known}
 use Rattle.wb_keeping.proofs.EachLine.{DoesEach, answers_each, asks_pages_each, due_each, turns_each}
 use Rattle.wb_keeping.proofs.EachStep.{HoldsOfSteps, having, line_holds, timed_holds}
 use Rattle.wb_keeping.proofs.Performed.{then_after}
 use Rattle.wb_keeping.proofs.Wanted.{is_wanted_here, lines_wanted}
-use Rattle.wb_kept_progress.specs.Sessions.{AreTaken, LineAt, Opening, kept_at}
-use Rattle.wb_kept_progress.specs.Timed.{SaysNow, TellTimes, TimedLine, called_at, lines_of}
-use Rattle.wb_kept_progress.specs.Whole.{AreCalledInOrder, AreNoSlower, IsTimelySession, ReportsGoByRates, pause_of, there}
+use Rattle.wb_kept_progress.specs.Sessions.{AreTaken, At, Opening, kept_at}
+use Rattle.wb_kept_progress.specs.Timed.{AreInOrder, SaysNow, TellTimes, time_of}
+use Rattle.wb_kept_progress.specs.Whole.{AreNoSlower, IsTimelySession, ReportsGoByRates, pause_of, there}
 use Rattle.wb_kept_progress.proofs.Counted.{echoes_listed, members_are_live}
-use Rattle.wb_kept_progress.proofs.CallParts.{calls_order}
 use Rattle.wb_kept_progress.proofs.InTurn.{due_is, silent_due, timed_now, to_turn}
 use Rattle.wb_kept_progress.proofs.Leaving.{hears_tells}
 use Rattle.wb_kept_progress.proofs.Moments.{IsTuned, moment_of, told_itself, told_or_tuned}
@@ -57,6 +56,7 @@ use Rattle.wb_kept_progress.proofs.NextDue.{there_here, there_other}
 use Rattle.wb_kept_progress.proofs.OwedAndDue.{due_there, now_there, taken_of}
 use Rattle.wb_kept_progress.proofs.Repairs.{came_after}
 use Rattle.wb_kept_progress.proofs.TurnsApart.{DrawsNothing}
+use Rattle.wb_progress.proofs.Parts.{order_of}
 
 -- ---- the echoes of a host ascend, and are at most 65,535
 
@@ -204,15 +204,15 @@ rates_stay = record {
   takes_up = λ k is. refl;
 }
 
-rate_at : (hosts : ℕ → Opening) (lines : List LineAt) (i : ℕ) → AreTaken hosts lines → (kept_at hosts lines i).policy.reports.rate ≡ (hosts i).rate
+rate_at : (hosts : ℕ → Opening) (lines : List (At KeptLine)) (i : ℕ) → AreTaken hosts lines → (kept_at hosts lines i).policy.reports.rate ≡ (hosts i).rate
 rate_at hosts [] i taken = refl
 rate_at hosts (e ∷ older) i taken = by (rate_at hosts older i taken.1) (nat_eq e.place i) refl where
   by : (kept_at hosts older i).policy.reports.rate ≡ (hosts i).rate → (b : Bool) → nat_eq e.place i ≡ b
-      → (let k : Keeping = cond b (after_doing (doing_of e.line) (kept_at hosts older i)) (kept_at hosts older i) in k.policy.reports.rate) ≡ (hosts i).rate
+      → (let k : Keeping = cond b (after_doing (doing_of e.event) (kept_at hosts older i)) (kept_at hosts older i) in k.policy.reports.rate) ≡ (hosts i).rate
   by old false other = old
   by old true same =
-      let none = subst (λ (p : ℕ). fault_of e.line (kept_at hosts older p) ≡ None) (eqb-true e.place i same) taken.0 in
-      line_holds KeepsRate rates_stay e.line (kept_at hosts older i) none ∙ old
+      let none = subst (λ (p : ℕ). fault_of e.event (kept_at hosts older p) ≡ None) (eqb-true e.place i same) taken.0 in
+      line_holds KeepsRate rates_stay e.event (kept_at hosts older i) none ∙ old
 
 either_rate : (p : Policy) (b : Bool) (x y : Doing) → x.policy.reports.rate ≡ p.reports.rate → y.policy.reports.rate ≡ p.reports.rate → (let d : Doing = cond b x y in d.policy.reports.rate) ≡ p.reports.rate
 either_rate p true x y one other = one
@@ -286,7 +286,7 @@ module _ (least most : ℕ) (some : 1 ≤ least) where
 
 -- ---- a session
 
-module _ (hosts : ℕ → Opening) (terms : Terms) (trace : List TimedLine) (rate : ℕ) (s : IsTimelySession hosts terms trace) (some : 1 ≤ rate)
+module _ (hosts : ℕ → Opening) (terms : Terms) (trace : List (At KeptLine)) (rate : ℕ) (s : IsTimelySession hosts terms trace) (some : 1 ≤ rate)
     (slower : AreNoSlower hosts terms rate) (i : ℕ) (live : Contains terms.live i) where
   abbrev members : ℕ
   members = length terms.live
@@ -294,29 +294,29 @@ module _ (hosts : ℕ → Opening) (terms : Terms) (trace : List TimedLine) (rat
   abbrev from : ℕ
   from = settled_by terms + HEARD + terms.drift
 
-  abbrev IsSoon : List TimedLine → Type 0
-  IsSoon older = (there hosts older i).policy.reports.due + terms.lag i ≤ max (called_at older) (from + 96000000) + pause_of rate members
+  abbrev IsSoon : List (At KeptLine) → Type 0
+  IsSoon older = (there hosts older i).policy.reports.due + terms.lag i ≤ max (time_of older) (from + 96000000) + pause_of rate members
 
   -- a call of it after that time
-  here : (newer older : List TimedLine) (e : TimedLine) → trace ≡ newer ++ e ∷ older → from < e.time → nat_eq e.at.place i ≡ true → called_at older ≤ e.time
+  here : (newer older : List (At KeptLine)) (e : At KeptLine) → trace ≡ newer ++ e ∷ older → from < e.time → nat_eq e.place i ≡ true → time_of older ≤ e.time
       → IsSoon older → IsSoon (e ∷ older)
   here newer older e split after same order soon = ⊎_elim
-      (λ (t : IsTuned e.at.line). tuning (tuned_only e.at.line k t))
-      (λ (at : IsNowAt terms e.time i (moment_of e.at.line)). ⊎_elim tuning (λ (now_is : present done.host ≡ moment_of e.at.line). in_time at now_is) (call_now e.at.line k (moment_of e.at.line) (told_itself e.at.line)))
-      (told_or_tuned terms e.time i e.at.line told) where
+      (λ (t : IsTuned e.event). tuning (tuned_only e.event k t))
+      (λ (at : IsNowAt terms e.time i (moment_of e.event)). ⊎_elim tuning (λ (now_is : present done.host ≡ moment_of e.event). in_time at now_is) (call_now e.event k (moment_of e.event) (told_itself e.event)))
+      (told_or_tuned terms e.time i e.event told) where
         k : Keeping
         k = there hosts older i
 
         done : Keeping
-        done = after_doing (doing_of e.at.line) k
+        done = after_doing (doing_of e.event) k
 
         is : there hosts (e ∷ older) i ≡ done
         is = there_here hosts e older i same
 
-        told : SaysNow terms e.time i e.at.line
+        told : SaysNow terms e.time i e.event
         told =
-            let place = eqb-true e.at.place i same in
-            subst (λ (p : ℕ). SaysNow terms e.time p e.at.line) place (told_in terms newer older e (subst (TellTimes terms) split s.times) (subst (Contains terms.live) (sym place) live))
+            let place = eqb-true e.place i same in
+            subst (λ (p : ℕ). SaysNow terms e.time p e.event) place (told_in terms newer older e (subst (TellTimes terms) split s.times) (subst (Contains terms.live) (sym place) live))
 
         as_it_was : (due old lag before time since pause : ℕ) → due ≡ old → old + lag ≤ max before since + pause → before ≤ time → due + lag ≤ max time since + pause
         as_it_was due old lag before time since pause e le order = omega (arith, e, le, order)
@@ -327,16 +327,16 @@ module _ (hosts : ℕ → Opening) (terms : Terms) (trace : List TimedLine) (rat
         as_before : done.policy.reports.due ≡ k.policy.reports.due → IsSoon (e ∷ older)
         as_before same_due = as_it_was _ _ _ _ _ _ (pause_of rate members) (ap (λ (n : Keeping). n.policy.reports.due) is ∙ same_due) soon order
 
-        tuning : IsTuning (doing_of e.at.line) k → IsSoon (e ∷ older)
+        tuning : IsTuning (doing_of e.event) k → IsSoon (e ∷ older)
         tuning t = as_before (ap (λ (p : Policy). p.reports.due) t.policy)
 
         late : (now moment lag time : ℕ) → now ≡ moment → time ≤ moment + lag + terms.drift → from < time → settled_by terms + HEARD ≤ now + lag
         late now moment lag time same behind after = omega (arith, same, behind, after)
 
-        in_time : IsNowAt terms e.time i (moment_of e.at.line) → present done.host ≡ moment_of e.at.line → IsSoon (e ∷ older)
+        in_time : IsNowAt terms e.time i (moment_of e.event) → present done.host ≡ moment_of e.event → IsSoon (e ∷ older)
         in_time at now_is =
-            let taken = taken_of hosts newer (e ∷ older) (subst (λ (t : List TimedLine). AreTaken hosts (lines_of t)) split s.taken) in
-            let rate_is : done.policy.reports.rate ≡ (hosts i).rate = ap (λ (n : Keeping). n.policy.reports.rate) (sym is) ∙ rate_at hosts (lines_of (e ∷ older)) i taken in
+            let taken = taken_of hosts newer (e ∷ older) (subst (λ (t : List (At KeptLine)). AreTaken hosts t) split s.taken) in
+            let rate_is : done.policy.reports.rate ≡ (hosts i).rate = ap (λ (n : Keeping). n.policy.reports.rate) (sym is) ∙ rate_at hosts (e ∷ older) i taken in
             let least = slower i live in
             let behind = at.not_behind in
             let few = subst (λ (n : Keeping). settled_by terms + HEARD ≤ present n.host + terms.lag i → members_in (echoes n.host) ≤ members) is (members_are_live hosts terms trace newer (e ∷ older) i s split live) in
@@ -346,23 +346,23 @@ module _ (hosts : ℕ → Opening) (terms : Terms) (trace : List TimedLine) (rat
             (λ (next : done.policy.reports.due ≤ present done.host + pause_of rate members).
             subst (λ (n : Keeping). n.policy.reports.due + terms.lag i ≤ max e.time (from + 96000000) + pause_of rate members) (sym is)
             (from_now _ _ _ _ _ _ (pause_of rate members) next now (omega (arith, after))))
-            (call_pause rate members some e.at.line k (λ now page time op. s.drawn newer older e now page time op split (omega (arith, after))) (omega (arith, rate_is, least)) (few (late _ _ _ _ now_is behind after)))
+            (call_pause rate members some e.event k (λ now page time op. s.drawn newer older e now page time op split (omega (arith, after))) (omega (arith, rate_is, least)) (few (late _ _ _ _ now_is behind after)))
 
-  within : (older newer : List TimedLine) → trace ≡ newer ++ older → IsSoon older
+  within : (older newer : List (At KeptLine)) → trace ≡ newer ++ older → IsSoon older
   within [] newer split = let d = due_there hosts terms trace newer [] i s split live in early _ _ (pause_of rate members) d where
     early : (due lag pause : ℕ) → due + lag ≤ max 0 terms.quiet + 96000000 → due + lag ≤ max 0 (from + 96000000) + pause
     early due lag pause le = omega (arith, le)
   within (e ∷ older) newer split = ⊎_elim
       (λ (yes : (nat_le e.time from ≡ true) × (e.time ≤ from)). let d = due_there hosts terms trace newer (e ∷ older) i s split live in before _ _ _ (pause_of rate members) d yes.1)
-      (λ (no : (nat_le e.time from ≡ false) × (from < e.time)). by (nat_eq e.at.place i) refl no.1 (within older (newer ++ e ∷ []) (split ∙ sym (append_assoc newer (e ∷ []) older))))
+      (λ (no : (nat_le e.time from ≡ false) × (from < e.time)). by (nat_eq e.place i) refl no.1 (within older (newer ++ e ∷ []) (split ∙ sym (append_assoc newer (e ∷ []) older))))
       (leb_tells e.time from) where
-        order : called_at older ≤ e.time
-        order = (calls_order newer (e ∷ older) (subst AreCalledInOrder split s.order)).0
+        order : time_of older ≤ e.time
+        order = (order_of newer (e ∷ older) (subst AreInOrder split s.order)).0
 
         before : (due lag time pause : ℕ) → due + lag ≤ max time terms.quiet + 96000000 → time ≤ from → due + lag ≤ max time (from + 96000000) + pause
         before due lag time pause le first = omega (arith, le, first)
 
-        by : (b : Bool) → nat_eq e.at.place i ≡ b → from < e.time → IsSoon older → IsSoon (e ∷ older)
+        by : (b : Bool) → nat_eq e.place i ≡ b → from < e.time → IsSoon older → IsSoon (e ∷ older)
         by true same after soon = here newer older e split after same order soon
         by false other after soon =
             subst (λ (k : Keeping). k.policy.reports.due + terms.lag i ≤ max e.time (from + 96000000) + pause_of rate members) (sym (there_other hosts e older i other))

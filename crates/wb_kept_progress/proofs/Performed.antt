@@ -13,40 +13,40 @@ use Rattle.wb_keeping.specs.Performing.{Keeping, after_doing, after_line, after_
 use Rattle.wb_policy.specs.Policy.{Policy}
 use Rattle.wb_keeping.specs.Views.{View}
 use Rattle.wb_kept_progress.specs.Sessions.{Opening, kept_at}
-use Rattle.wb_kept_progress.specs.Timed.{SaysNow, KeptIsPerformed, KeptKeepsMoments, Performed, Start, TellTimes, TimedLine, host_after, lines_of, performed, performed_then, start_of}
+use Rattle.wb_kept_progress.specs.Timed.{At, KeptIsPerformed, KeptKeepsMoments, SaysNow, Start, TellTimes, host_after, performed, performed_then, start_of}
 use Rattle.wb_kept_progress.proofs.PerLine.{line_moment}
 use Rattle.wb_keeping.proofs.EachLine.{timed_each, DoesEach, Each, OfPolicy, ends_each, then_each, hears_each}
 
 module _ (hosts : ℕ → Start) where
   -- the host at a place behind lines that one performed
-  pub after_all : (time place : ℕ) (lines : List Line) (older : List Performed) (i : ℕ) (b : Bool) → nat_eq place i ≡ b → host_after hosts (performed_then time place lines older) i ≡ cond b (after_lines lines (host_after hosts older i)) (host_after hosts older i)
+  pub after_all : (time place : ℕ) (lines : List Line) (older : List (At Line)) (i : ℕ) (b : Bool) → nat_eq place i ≡ b → host_after hosts (performed_then time place lines older) i ≡ cond b (after_lines lines (host_after hosts older i)) (host_after hosts older i)
   after_all time place [] older i true e = refl
   after_all time place [] older i false e = refl
   after_all time place (line ∷ lines) older i true e =
-      after_all time place lines (record { time = time; place = place; line = line } ∷ older) i true e
+      after_all time place lines (record { time = time; place = place; event = line } ∷ older) i true e
       ∙ ap (λ (b : Bool). after_lines lines (cond b (after_line line (host_after hosts older i)) (host_after hosts older i))) e
   after_all time place (line ∷ lines) older i false e =
-      after_all time place lines (record { time = time; place = place; line = line } ∷ older) i false e
+      after_all time place lines (record { time = time; place = place; event = line } ∷ older) i false e
       ∙ ap (λ (b : Bool). cond b (after_line line (host_after hosts older i)) (host_after hosts older i)) e
 
 pub kept_is_performed : KeptIsPerformed
 kept_is_performed hosts trace = record { same = by trace } where
-  by : (trace : List TimedLine) (i : ℕ) → host_after (λ j. start_of (hosts j)) (performed hosts trace) i ≡ (kept_at hosts (lines_of trace) i).host
+  by : (trace : List (At KeptLine)) (i : ℕ) → host_after (λ j. start_of (hosts j)) (performed hosts trace) i ≡ (kept_at hosts trace i).host
   by [] i = refl
-  by (e ∷ older) i = from (nat_eq e.at.place i) refl (by older i) where
+  by (e ∷ older) i = from (nat_eq e.place i) refl (by older i) where
     k : Keeping
-    k = kept_at hosts (lines_of older) e.at.place
+    k = kept_at hosts older e.place
 
     does : List Line
-    does = (doing_of e.at.line (sees k.host) k.policy).lines
+    does = (doing_of e.event (sees k.host) k.policy).lines
 
-    from : (b : Bool) → nat_eq e.at.place i ≡ b → host_after (λ j. start_of (hosts j)) (performed hosts older) i ≡ (kept_at hosts (lines_of older) i).host
-        → host_after (λ j. start_of (hosts j)) (performed_then e.time e.at.place does (performed hosts older)) i ≡ (cond b (after_doing (doing_of e.at.line) (kept_at hosts (lines_of older) i)) (kept_at hosts (lines_of older) i)).host
+    from : (b : Bool) → nat_eq e.place i ≡ b → host_after (λ j. start_of (hosts j)) (performed hosts older) i ≡ (kept_at hosts older i).host
+        → host_after (λ j. start_of (hosts j)) (performed_then e.time e.place does (performed hosts older)) i ≡ (cond b (after_doing (doing_of e.event) (kept_at hosts older i)) (kept_at hosts older i)).host
     from true same rest =
-        after_all (λ j. start_of (hosts j)) e.time e.at.place does (performed hosts older) i true same
+        after_all (λ j. start_of (hosts j)) e.time e.place does (performed hosts older) i true same
         ∙ ap (after_lines does) rest
-        ∙ ap (λ (p : ℕ). let m = kept_at hosts (lines_of older) p in after_lines (doing_of e.at.line (sees m.host) m.policy).lines (kept_at hosts (lines_of older) i).host) (eqb-true e.at.place i same)
-    from false same rest = after_all (λ j. start_of (hosts j)) e.time e.at.place does (performed hosts older) i false same ∙ rest
+        ∙ ap (λ (p : ℕ). let m = kept_at hosts older p in after_lines (doing_of e.event (sees m.host) m.policy).lines (kept_at hosts older i).host) (eqb-true e.place i same)
+    from false same rest = after_all (λ j. start_of (hosts j)) e.time e.place does (performed hosts older) i false same ∙ rest
 
 -- ---- no ticks but the first
 
@@ -95,28 +95,28 @@ adds_begin now page time op see p = record {
 -- ---- moments
 
 module _ (hosts : ℕ → Start) (terms : Terms) where
-  record IsInTime (e : Performed) (older : List Performed) : Type 0 where
-    ticks : (now : ℕ) → Contains terms.live e.place → e.line ≡ Calls (Tick now) → IsNowAt terms e.time e.place now
-    hears : (v : Datagram) → Contains terms.live e.place → e.line ≡ Calls (Hear v) → IsNowAt terms e.time e.place (present (host_after hosts older e.place))
+  record IsInTime (e : At Line) (older : List (At Line)) : Type 0 where
+    ticks : (now : ℕ) → Contains terms.live e.place → e.event ≡ Calls (Tick now) → IsNowAt terms e.time e.place now
+    hears : (v : Datagram) → Contains terms.live e.place → e.event ≡ Calls (Hear v) → IsNowAt terms e.time e.place (present (host_after hosts older e.place))
 
-  abbrev AreInTime : List Performed → Type 0
+  abbrev AreInTime : List (At Line) → Type 0
   AreInTime [] = Unit {0}
   AreInTime (e ∷ older) = IsInTime e older × AreInTime older
 
-  one_in : (newer older : List Performed) (e : Performed) → AreInTime (newer ++ e ∷ older) → IsInTime e older
+  one_in : (newer older : List (At Line)) (e : At Line) → AreInTime (newer ++ e ∷ older) → IsInTime e older
   one_in [] older e all = all.0
   one_in (x ∷ newer) older e all = one_in newer older e all.1
 
-  abbrev at_place : ℕ → ℕ → Line → Performed
-  at_place time place line = record { time = time; place = place; line = line }
+  abbrev at_place : ℕ → ℕ → Line → At Line
+  at_place time place line = record { time = time; place = place; event = line }
 
-  here : (time place : ℕ) (line : Line) (older : List Performed) → host_after hosts (at_place time place line ∷ older) place ≡ after_line line (host_after hosts older place)
+  here : (time place : ℕ) (line : Line) (older : List (At Line)) → host_after hosts (at_place time place line ∷ older) place ≡ after_line line (host_after hosts older place)
   here time place line older = ap (λ (b : Bool). cond b (after_line line (host_after hosts older place)) (host_after hosts older place)) (eq-eqb place place refl)
 
   no_tick : (line : Line) (now : ℕ) → IsNoTick line → line ≡ Calls (Tick now) → ⊥
   no_tick line now none e = subst IsNoTick e none
 
-  then_in : (time place : ℕ) (lines : List Line) (older : List Performed) → AreNoTicks lines → AreInTime older → (Contains terms.live place → IsNowAt terms time place (present (host_after hosts older place))) → AreInTime (performed_then time place lines older)
+  then_in : (time place : ℕ) (lines : List Line) (older : List (At Line)) → AreNoTicks lines → AreInTime older → (Contains terms.live place → IsNowAt terms time place (present (host_after hosts older place))) → AreInTime (performed_then time place lines older)
   then_in time place [] older none all now = all
   then_in time place (line ∷ lines) older none all now =
       then_in time place lines (at_place time place line ∷ older) none.1
@@ -126,7 +126,7 @@ module _ (hosts : ℕ → Start) (terms : Terms) where
       (λ (t : (moment : ℕ) × (line ≡ Calls (Tick moment)) × (present (after_line line (host_after hosts older place)) ≡ moment)). absurd (no_tick line t.0 none.0 t.1))
       (line_moment line (host_after hosts older place)))) (now live))
 
-  call_in : (time place now : ℕ) (rest : List Line) (older : List Performed) → AreNoTicks rest → AreInTime older → (Contains terms.live place → IsNowAt terms time place now) → AreInTime (performed_then time place (Calls (Tick now) ∷ rest) older)
+  call_in : (time place now : ℕ) (rest : List Line) (older : List (At Line)) → AreNoTicks rest → AreInTime older → (Contains terms.live place → IsNowAt terms time place now) → AreInTime (performed_then time place (Calls (Tick now) ∷ rest) older)
   call_in time place now rest older none all told =
       then_in time place rest (at_place time place (Calls (Tick now)) ∷ older) none
       (record { ticks = λ moment live e. subst (IsNowAt terms time place) (same moment e) (told live); hears = λ v live e. absurd (other v e) }, all)
@@ -137,10 +137,10 @@ module _ (hosts : ℕ → Start) (terms : Terms) where
         other : (v : Datagram) → Calls (Tick now) ≡ Calls (Hear v) → ⊥
         other v e = cc
 
-  begun_in : (time place now : ℕ) (d : Doing) (older : List Performed) → Begins now d → AreInTime older → (Contains terms.live place → IsNowAt terms time place now) → AreInTime (performed_then time place d.lines older)
+  begun_in : (time place now : ℕ) (d : Doing) (older : List (At Line)) → Begins now d → AreInTime older → (Contains terms.live place → IsNowAt terms time place now) → AreInTime (performed_then time place d.lines older)
   begun_in time place now d older b all told = subst (λ (lines : List Line). AreInTime (performed_then time place lines older)) (sym b.is) (call_in time place now b.rest older b.none all told)
 
-  line_in : (line : KeptLine) (time place : ℕ) (see : List Line → View) (p : Policy) (older : List Performed) → (Contains terms.live place → SaysNow terms time place line) → AreInTime older → AreInTime (performed_then time place (doing_of line see p).lines older)
+  line_in : (line : KeptLine) (time place : ℕ) (see : List Line → View) (p : Policy) (older : List (At Line)) → (Contains terms.live place → SaysNow terms time place line) → AreInTime older → AreInTime (performed_then time place (doing_of line see p).lines older)
   line_in (Came now v) time place see p older told all = begun_in time place now (came now v see p) older (came_begins now v see p) all told
   line_in (Ticked now) time place see p older told all = begun_in time place now (ticks now see p) older (ticks_begin now see p) all told
   line_in (Added now page t op) time place see p older told all = begun_in time place now (adds now page t op see p) older (adds_begin now page t op see p) all told
@@ -148,11 +148,11 @@ module _ (hosts : ℕ → Start) (terms : Terms) where
     unheard : (v : Datagram) → Calls (Tune constants) ≡ Calls (Hear v) → ⊥
     unheard v e = cc
 
-all_in : (hosts : ℕ → Opening) (terms : Terms) (trace : List TimedLine) → TellTimes terms trace → AreInTime (λ j. start_of (hosts j)) terms (performed hosts trace)
+all_in : (hosts : ℕ → Opening) (terms : Terms) (trace : List (At KeptLine)) → TellTimes terms trace → AreInTime (λ j. start_of (hosts j)) terms (performed hosts trace)
 all_in hosts terms [] tells = tt
 all_in hosts terms (e ∷ older) tells =
-    let k = kept_at hosts (lines_of older) e.at.place in
-    line_in (λ j. start_of (hosts j)) terms e.at.line e.time e.at.place (sees k.host) k.policy (performed hosts older) tells.0 (all_in hosts terms older tells.1)
+    let k = kept_at hosts older e.place in
+    line_in (λ j. start_of (hosts j)) terms e.event e.time e.place (sees k.host) k.policy (performed hosts older) tells.0 (all_in hosts terms older tells.1)
 
 pub kept_keeps_moments : KeptKeepsMoments
 kept_keeps_moments hosts terms trace tells = record {

@@ -43,7 +43,7 @@ use Rattle.wb_keeping.specs.declared.kept_fault.KeptFault.TheVariants.{Host, Our
 use Rattle.wb_keeping.proofs.EachStep.{having}
 use Rattle.wb_keeping.proofs.Performed.{then_after, then_sent}
 use Rattle.wb_kept_progress.specs.Repairs.{AskedCanCome, IsBrought, IsLost, host_at, repair}
-use Rattle.wb_kept_progress.specs.Sessions.{AreHosts, AreSent, AreTaken, LineAt, Opening, WasSent, at, kept_at, sent_since}
+use Rattle.wb_kept_progress.specs.Sessions.{AreHosts, AreSent, AreTaken, At, Opening, WasSent, at, kept_at, sent_since}
 use Rattle.wb_kept_progress.proofs.Going.{Goes, kept_goes, line_goes}
 use Rattle.wb_kept_progress.proofs.Lines.{IsOf, Rests, line_rests, lines_grow, lines_of, IsSmall, are_small, does_rest, rests_then}
 use Rattle.wb_keeping.proofs.EachLine.{learned_each, timed_each}
@@ -168,7 +168,7 @@ fine_next line k none f =
     }
 
 module _ (hosts : ℕ → Opening) where
-  pub of_opening : (lines : List LineAt) (i : ℕ) → IsOf (opened_with (hosts i).constants (hosts i).number (hosts i).cells (hosts i).seed) (host_at hosts lines i)
+  pub of_opening : (lines : List (At KeptLine)) (i : ℕ) → IsOf (opened_with (hosts i).constants (hosts i).number (hosts i).cells (hosts i).seed) (host_at hosts lines i)
   of_opening [] i = lines_of (ticks_at (hosts i).moments) (opened_with (hosts i).constants (hosts i).number (hosts i).cells (hosts i).seed)
   of_opening (e ∷ older) i = by (of_opening older i) (nat_eq e.place i) where
     start : Opened
@@ -177,23 +177,23 @@ module _ (hosts : ℕ → Opening) where
     k : Keeping
     k = kept_at hosts older i
 
-    by : IsOf start k.host → (b : Bool) → IsOf start (cond b (after_doing (doing_of e.line) k) k).host
+    by : IsOf start k.host → (b : Bool) → IsOf start (cond b (after_doing (doing_of e.event) k) k).host
     by rest false = rest
     by rest true =
-        let one = lines_of (doing_of e.line (sees k.host) k.policy).lines k.host in
+        let one = lines_of (doing_of e.event (sees k.host) k.policy).lines k.host in
         record { number = one.number ∙ rest.number; cells = one.cells ∙ rest.cells; constants = one.constants ∙ rest.constants }
 
-  pub held_once : (lines : List LineAt) (i : ℕ) → IsHistory (host_at hosts lines i).is.held
+  pub held_once : (lines : List (At KeptLine)) (i : ℕ) → IsHistory (host_at hosts lines i).is.held
   held_once [] i = (lines_grow (ticks_at (hosts i).moments) (opened_with (hosts i).constants (hosts i).number (hosts i).cells (hosts i).seed)).once (λ j k d jk lt. absurd (omega arith))
   held_once (e ∷ older) i = by (held_once older i) (nat_eq e.place i) where
     k : Keeping
     k = kept_at hosts older i
 
-    by : IsHistory k.host.is.held → (b : Bool) → IsHistory (cond b (after_doing (doing_of e.line) k) k).host.is.held
+    by : IsHistory k.host.is.held → (b : Bool) → IsHistory (cond b (after_doing (doing_of e.event) k) k).host.is.held
     by once false = once
-    by once true = (lines_grow (doing_of e.line (sees k.host) k.policy).lines k.host).once once
+    by once true = (lines_grow (doing_of e.event (sees k.host) k.policy).lines k.host).once once
 
-  pub fine_at : AreHosts hosts → (lines : List LineAt) → AreTaken hosts lines → (i : ℕ) → IsFine (kept_at hosts lines i)
+  pub fine_at : AreHosts hosts → (lines : List (At KeptLine)) → AreTaken hosts lines → (i : ℕ) → IsFine (kept_at hosts lines i)
   fine_at are lines taken i = record {
     goes = kept_goes hosts are lines taken i;
     once = held_once lines i;
@@ -206,28 +206,28 @@ pub is_itself : (n : ℕ) → nat_eq n n ≡ true
 is_itself n = grind (arith, nat_tests)
 
 -- two hosts, and the lines so far
-pub record Stage (hosts : ℕ → Opening) (start newer : List LineAt) (i j : ℕ) (one other : Keeping) : Type 0 where
+pub record Stage (hosts : ℕ → Opening) (start newer : List (At KeptLine)) (i j : ℕ) (one other : Keeping) : Type 0 where
   pub taken : AreTaken hosts (newer ++ start)
   pub sent : AreSent hosts newer start
   pub here : kept_at hosts (newer ++ start) i ≡ one
   pub there : kept_at hosts (newer ++ start) j ≡ other
 
-module _ (hosts : ℕ → Opening) (older : List LineAt) where
-  pub idle : (e : LineAt) (k : ℕ) → (e.place ≡ k → ⊥) → kept_at hosts (e ∷ older) k ≡ kept_at hosts older k
-  idle e k other = ap (λ (b : Bool). cond b (after_doing (doing_of e.line) (kept_at hosts older k)) (kept_at hosts older k)) (false_from_ne_true (nat_eq e.place k) (λ h. other (eqb-true e.place k h)))
+module _ (hosts : ℕ → Opening) (older : List (At KeptLine)) where
+  pub idle : (e : At KeptLine) (k : ℕ) → (e.place ≡ k → ⊥) → kept_at hosts (e ∷ older) k ≡ kept_at hosts older k
+  idle e k other = ap (λ (b : Bool). cond b (after_doing (doing_of e.event) (kept_at hosts older k)) (kept_at hosts older k)) (false_from_ne_true (nat_eq e.place k) (λ h. other (eqb-true e.place k h)))
 
   pub moved : (i : ℕ) (line : KeptLine) → kept_at hosts (at i line ∷ older) i ≡ after_doing (doing_of line) (kept_at hosts older i)
   moved i line = ap (λ (b : Bool). cond b (after_doing (doing_of line) (kept_at hosts older i)) (kept_at hosts older i)) (is_itself i)
 
-module _ (hosts : ℕ → Opening) (newer start : List LineAt) where
-  abbrev older : List LineAt
+module _ (hosts : ℕ → Opening) (newer start : List (At KeptLine)) where
+  abbrev older : List (At KeptLine)
   older = newer ++ start
 
   pub did_send : (i : ℕ) (line : KeptLine) (k : Keeping) (v : Datagram) → kept_at hosts older i ≡ k → Contains (sent_by_doing (doing_of line) k) v → Contains (sent_since hosts (at i line ∷ newer) start) v
   did_send i line k v is c = Contains-append_left (sent_by_doing (doing_of line) (kept_at hosts older i)) (sent_since hosts newer start) v (subst (λ (m : Keeping). Contains (sent_by_doing (doing_of line) m) v) (sym is) c)
 
-  pub still_sent : (e : LineAt) (v : Datagram) → Contains (sent_since hosts newer start) v → Contains (sent_since hosts (e ∷ newer) start) v
-  still_sent e v c = Contains-append_right (sent_by_doing (doing_of e.line) (kept_at hosts older e.place)) (sent_since hosts newer start) v c
+  pub still_sent : (e : At KeptLine) (v : Datagram) → Contains (sent_since hosts newer start) v → Contains (sent_since hosts (e ∷ newer) start) v
+  still_sent e v c = Contains-append_right (sent_by_doing (doing_of e.event) (kept_at hosts older e.place)) (sent_since hosts newer start) v c
 
   module _ (i j : ℕ) (differ : i ≡ j → ⊥) (one other : Keeping) (s : Stage hosts start newer i j one other) (line : KeptLine) (was : WasSent (sent_since hosts newer start) line) where
     pub first_next : fault_of line one ≡ None → Stage hosts start (at i line ∷ newer) i j (after_doing (doing_of line) one) other
@@ -424,12 +424,12 @@ module _ (o : Keeping) (fine : IsFine o) (d : DrawopValue) (held : Contains o.ho
   sends_it = tick_sends third o3 (Draw d) (ticks_answer o3.host.is.number o3.host.is.constants o3.host.is.calls o3.host.is.held third d fine_3.once held_3 (ap (λ (s : Timers). s.ask) timers_3) due_3)
 
 -- one that holds a drawop is not the one that lacks it
-pub places_differ : (hosts : ℕ → Opening) (older : List LineAt) (i j : ℕ) (d : DrawopValue) → IsLost hosts older i j d → i ≡ j → ⊥
+pub places_differ : (hosts : ℕ → Opening) (older : List (At KeptLine)) (i j : ℕ) (d : DrawopValue) → IsLost hosts older i j d → i ≡ j → ⊥
 places_differ hosts older i j d lost e = true≢false (sym (holds_from (host_at hosts older j).is.held d.name d lost.held refl) ∙ ap (λ (p : ℕ). holds (host_at hosts older p).is.held d.name) (sym e) ∙ lost.lost)
 
 -- ---- the six lines
 
-module _ (hosts : ℕ → Opening) (older : List LineAt) (i j : ℕ) (d : DrawopValue) (are : AreHosts hosts) (taken : AreTaken hosts older) (lost : IsLost hosts older i j d) (asked : asks_for d.name (host_at hosts older i) ≡ true) where
+module _ (hosts : ℕ → Opening) (older : List (At KeptLine)) (i j : ℕ) (d : DrawopValue) (are : AreHosts hosts) (taken : AreTaken hosts older) (lost : IsLost hosts older i j d) (asked : asks_for d.name (host_at hosts older i) ≡ true) where
   abbrev k : Keeping
   k = kept_at hosts older i
 
@@ -481,19 +481,19 @@ module _ (hosts : ℕ → Opening) (older : List LineAt) (i j : ℕ) (d : Drawop
   abbrev t3 : ℕ
   t3 = t2 + answering_wait
 
-  abbrev n1 : List LineAt
+  abbrev n1 : List (At KeptLine)
   n1 = at i (Ticked asking) ∷ []
 
-  abbrev n2 : List LineAt
+  abbrev n2 : List (At KeptLine)
   n2 = at j (Ticked t1) ∷ n1
 
-  abbrev n3 : List LineAt
+  abbrev n3 : List (At KeptLine)
   n3 = at j (Ticked t2) ∷ n2
 
-  abbrev n4 : List LineAt
+  abbrev n4 : List (At KeptLine)
   n4 = at j (Came t2 (Request me d.name)) ∷ n3
 
-  abbrev n5 : List LineAt
+  abbrev n5 : List (At KeptLine)
   n5 = at j (Ticked t3) ∷ n4
 
   stage_0 : Stage hosts older [] i j k o

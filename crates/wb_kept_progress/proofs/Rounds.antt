@@ -12,15 +12,16 @@ use Rattle.wb_member.specs.Opened.{asks_for}
 use Rattle.wb_kept_progress.specs.Promises.{timer_then}
 use Rattle.wb_kept_progress.specs.Rounds.{AreAsked, OneLacksAtMost, PlacesAreFilled, SessionsBecomeWholeByRounds, coming, rounds_by}
 use Rattle.wb_kept_progress.specs.Sessions.{Opening}
-use Rattle.wb_kept_progress.specs.Timed.{AllKeptHoldBehind, IsTimely, Start, TimedLine, called_at, performed, start_of, until}
+use Rattle.wb_kept_progress.specs.Timed.{AllKeptHoldBehind, At, IsTimely, Start, performed, start_of, time_of, until}
 use Rattle.wb_kept_progress.specs.Whole.{IsHeldBySome, IsLackedAt, IsTimelySession, NewAreKept, ReportWithin, WaitAtMost, there}
 use Rattle.wb_kept_progress.proofs.AskedComes.{asked_comes, asked_lacked, the_ask, timer_of}
 use Rattle.wb_kept_progress.proofs.Becoming.{held_on, lacked_before, lacked_first}
 use Rattle.wb_kept_progress.proofs.CallsInTime.{performed_is_timely}
 use Rattle.wb_kept_progress.proofs.KeptInTime.{front_of, holding, time_is}
 use Rattle.wb_kept_progress.proofs.Reached.{reached}
+use Rattle.wb_keeping.specs.Laws.{KeptLine}
 
-module _ (hosts : ℕ → Opening) (terms : Terms) (trace : List TimedLine) (since pause wait most places : ℕ) (session : IsTimelySession hosts terms trace)
+module _ (hosts : ℕ → Opening) (terms : Terms) (trace : List (At KeptLine)) (since pause wait most places : ℕ) (session : IsTimelySession hosts terms trace)
     (reports : ReportWithin hosts terms trace since pause) (waits : WaitAtMost hosts terms trace wait) (lacks_most : OneLacksAtMost hosts terms trace most)
     (kept : NewAreKept hosts terms trace since) (filled : PlacesAreFilled hosts terms trace since places) where
   abbrev start : ℕ
@@ -37,15 +38,15 @@ module _ (hosts : ℕ → Opening) (terms : Terms) (trace : List TimedLine) (sin
 
   -- ---- what is asked for comes
 
-  comes_by : (newer part : List TimedLine) (i : ℕ) (n : NameValue) → trace ≡ newer ++ part → start < called_at part → Contains terms.live i → IsHeldBySome hosts terms trace n → asks_for n (there hosts part i).host ≡ true
-      → AllKeptHoldBehind hosts terms trace (called_at part + coming terms) n
+  comes_by : (newer part : List (At KeptLine)) (i : ℕ) (n : NameValue) → trace ≡ newer ++ part → start < time_of part → Contains terms.live i → IsHeldBySome hosts terms trace n → asks_for n (there hosts part i).host ≡ true
+      → AllKeptHoldBehind hosts terms trace (time_of part + coming terms) n
   comes_by newer part i n split late live held asked =
       let f = front_of hosts newer part in
       let t = the_ask (timer_then hosts (performed hosts part) i n) (timer_of hosts part i n asked) in
       let time = time_is hosts part in
       let comes =
       asked_comes hosts terms trace since wait timely waits kept f.0 (performed hosts part) i n t.0 (ap (performed hosts) split ∙ f.1) (omega (arith, late, time)) (omega (arith, late, time)) live held t.1 in
-      holding hosts terms trace timely n (called_at part + coming terms) (λ front later j is lt live_j. comes front later j is (omega (arith, lt, time)) live_j)
+      holding hosts terms trace timely n (time_of part + coming terms) (λ front later j is lt live_j. comes front later j is (omega (arith, lt, time)) live_j)
 
   -- ---- round by round
 
@@ -53,14 +54,14 @@ module _ (hosts : ℕ → Opening) (terms : Terms) (trace : List TimedLine) (sin
   at_round k = start + k * round
 
   -- Of k times `places` names and one that the host lacked at first, it holds each but one after k rounds.
-  record HaveCome (part : List TimedLine) (i : ℕ) (n : NameValue) (k : ℕ) : Type 0 where
+  record HaveCome (part : List (At KeptLine)) (i : ℕ) (n : NameValue) (k : ℕ) : Type 0 where
     names : List NameValue
     apart : AreApart names
     count : length names ≡ k * places + 1
     first : (x : NameValue) → Contains names x → IsLackedAt hosts terms trace (until (settled_by terms) (performed hosts trace)) (record { place = i; name = x })
     then : (x : NameValue) → Contains names x → (x ≡ n) ⊎ (holds (there hosts part i).host x ≡ true)
 
-  have_come : (k : ℕ) (newer part : List TimedLine) (i : ℕ) (n : NameValue) → trace ≡ newer ++ part → at_round k < called_at part → Contains terms.live i → IsHeldBySome hosts terms trace n → holds (there hosts part i).host n ≡ false → HaveCome part i n k
+  have_come : (k : ℕ) (newer part : List (At KeptLine)) (i : ℕ) (n : NameValue) → trace ≡ newer ++ part → at_round k < time_of part → Contains terms.live i → IsHeldBySome hosts terms trace n → holds (there hosts part i).host n ≡ false → HaveCome part i n k
   have_come zero newer part i n split late live held lacks = record {
     names = n ∷ [];
     apart = (λ c. absurd (Contains-none n c), tt);
@@ -76,17 +77,17 @@ module _ (hosts : ℕ → Opening) (terms : Terms) (trace : List TimedLine) (sin
   have_come (suc k) newer part i n split late live held lacks =
       let r = reached hosts terms trace session since pause reports newer part (at_round k) i split live (omega arith) (omega arith) (omega (arith, late)) in
       one_more r.window r.base r.split r.from r.soon (have_come k (newer ++ r.window) r.base i n) where
-        one_more : (window base : List TimedLine) → part ≡ window ++ base → at_round k < called_at base → called_at base ≤ at_round k + (pause + terms.late)
-            → (trace ≡ (newer ++ window) ++ base → at_round k < called_at base → Contains terms.live i → IsHeldBySome hosts terms trace n → holds (there hosts base i).host n ≡ false → HaveCome base i n k) → HaveCome part i n (suc k)
+        one_more : (window base : List (At KeptLine)) → part ≡ window ++ base → at_round k < time_of base → time_of base ≤ at_round k + (pause + terms.late)
+            → (trace ≡ (newer ++ window) ++ base → at_round k < time_of base → Contains terms.live i → IsHeldBySome hosts terms trace n → holds (there hosts base i).host n ≡ false → HaveCome base i n k) → HaveCome part i n (suc k)
         one_more window base is from soon before = ⊎_elim
             (λ (asked : asks_for n (there hosts base i).host ≡ true). absurd (true≢false (sym (comes n held asked) ∙ lacks)))
             (λ (a : AreAsked hosts terms trace base i places). with_these a (before whole from live held lacked))
             (filled (newer ++ window) base i n whole live (omega (arith, from)) held lacked) where
               whole : trace ≡ (newer ++ window) ++ base
-              whole = split ∙ ap (λ (t : List TimedLine). newer ++ t) is ∙ sym (append_assoc newer window base)
+              whole = split ∙ ap (λ (t : List (At KeptLine)). newer ++ t) is ∙ sym (append_assoc newer window base)
 
               lacked : holds (there hosts base i).host n ≡ false
-              lacked = lacked_before hosts window base i n (subst (λ (t : List TimedLine). holds (there hosts t i).host n ≡ false) is lacks)
+              lacked = lacked_before hosts window base i n (subst (λ (t : List (At KeptLine)). holds (there hosts t i).host n ≡ false) is lacks)
 
               -- what is asked for comes within the round
               comes : (x : NameValue) → IsHeldBySome hosts terms trace x → asks_for x (there hosts base i).host ≡ true → holds (there hosts part i).host x ≡ true
@@ -108,7 +109,7 @@ module _ (hosts : ℕ → Opening) (terms : Terms) (trace : List TimedLine) (sin
                     (λ (new : Contains a.names x). inr (comes x (a.held x new) (a.asked x new)))
                     (λ (old : Contains h.names x). ⊎_elim
                     (λ (same : x ≡ n). inl same)
-                    (λ (had : holds (there hosts base i).host x ≡ true). inr (subst (λ (t : List TimedLine). holds (there hosts t i).host x ≡ true) (sym is) (held_on hosts window base i x had)))
+                    (λ (had : holds (there hosts base i).host x ≡ true). inr (subst (λ (t : List (At KeptLine)). holds (there hosts t i).host x ≡ true) (sym is) (held_on hosts window base i x had)))
                     (h.then x old))
                     (Contains-append_cases a.names h.names x c);
               }

@@ -14,25 +14,26 @@ use Rattle.wb_policy.proofs.HeldTops.{below_top, top_told}
 use Rattle.wb_kept_progress.specs.Filling.{ReportTheSame, SameReportsLeaveHoles}
 use Rattle.wb_kept_progress.specs.Promises.{host_then}
 use Rattle.wb_kept_progress.specs.Sessions.{Opening}
-use Rattle.wb_kept_progress.specs.Timed.{TimedLine, called_at, performed, until}
-use Rattle.wb_kept_progress.specs.Whole.{AreCalledInOrder, IsHeldBySome, IsTimelySession, there}
+use Rattle.wb_kept_progress.specs.Timed.{AreInOrder, At, performed, time_of, until}
+use Rattle.wb_kept_progress.specs.Whole.{IsHeldBySome, IsTimelySession, there}
 use Rattle.wb_kept_progress.proofs.Becoming.{held_on}
 use Rattle.wb_kept_progress.proofs.CallParts.{lacked_until}
 use Rattle.wb_kept_progress.proofs.Coming.{missing_below}
 use Rattle.wb_kept_progress.proofs.ToldHeld.{report_held}
-use Rattle.wb_kept_progress.proofs.WindowParts.{calls_past}
+use Rattle.wb_keeping.specs.Laws.{KeptLine}
+use Rattle.wb_progress.proofs.Parts.{in_past}
 
-module _ (hosts : ℕ → Opening) (terms : Terms) (trace newer calls : List TimedLine) (session : IsTimelySession hosts terms trace) (split : trace ≡ newer ++ calls) (settled : settled_by terms < called_at calls) where
+module _ (hosts : ℕ → Opening) (terms : Terms) (trace newer calls : List (At KeptLine)) (session : IsTimelySession hosts terms trace) (split : trace ≡ newer ++ calls) (settled : settled_by terms < time_of calls) where
   -- what some live host held at first it holds then
   pub still_held : (n : NameValue) (some : IsHeldBySome hosts terms trace n) → holds (there hosts calls some.0).host.is.held n ≡ true
   still_held n some = by (holds (there hosts calls some.0).host.is.held n) refl where
     by : (b : Bool) → holds (there hosts calls some.0).host.is.held n ≡ b → b ≡ true
     by true e = refl
     by false e =
-        let lacked = lacked_until hosts newer calls (settled_by terms) some.0 n (subst AreCalledInOrder split session.order) settled e in
-        absurd (true≢false (sym some.2 ∙ ap (λ (t : List TimedLine). holds (host_then hosts (until (settled_by terms) (performed hosts t)) some.0).is.held n) split ∙ lacked))
+        let lacked = lacked_until hosts newer calls (settled_by terms) some.0 n (subst AreInOrder split session.order) settled e in
+        absurd (true≢false (sym some.2 ∙ ap (λ (t : List (At KeptLine)). holds (host_then hosts (until (settled_by terms) (performed hosts t)) some.0).is.held n) split ∙ lacked))
 
-  module _ (same : ReportTheSame hosts terms calls) (newest older : List TimedLine) (i j : ℕ) (d : DrawopValue) (split_older : trace ≡ newest ++ older) (live : Contains terms.live i) (live_j : Contains terms.live j) (late : called_at calls + 1 ≤ called_at older)
+  module _ (same : ReportTheSame hosts terms calls) (newest older : List (At KeptLine)) (i j : ℕ) (d : DrawopValue) (split_older : trace ≡ newest ++ older) (live : Contains terms.live i) (live_j : Contains terms.live j) (late : time_of calls + 1 ≤ time_of older)
       (held : Contains (there hosts calls j).host.is.held d) (counted : 1 ≤ d.name.seq) where
     abbrev one : List DrawopValue
     one = (there hosts calls i).host.is.held
@@ -56,14 +57,14 @@ module _ (hosts : ℕ → Opening) (terms : Terms) (trace newer calls : List Tim
     top_then : IsHeld one page source top
     top_then = report_held one page (top_mark other page source) (subst (λ (marks : List MarkValue). Contains marks (top_mark other page source)) (same j i page live_j live) (top_told other d held counted))
 
-    within : (middle : List TimedLine) × (older ≡ middle ++ calls)
-    within = calls_past newest older newer calls (sym split_older ∙ split) (subst AreCalledInOrder split_older session.order) (omega (arith, late))
+    within : (middle : List (At KeptLine)) × (older ≡ middle ++ calls)
+    within = in_past newest older newer calls (sym split_older ∙ split) (subst AreInOrder split_older session.order) (omega (arith, late))
 
     top_held : IsHeld then page source top
     top_held =
         let name = name_of page source top in
         let on = held_on hosts within.0 calls i name (held-from one page source top top_then) in
-        let x = held_as then name (subst (λ (t : List TimedLine). holds (there hosts t i).host.is.held name ≡ true) (sym within.1) on) in
+        let x = held_as then name (subst (λ (t : List (At KeptLine)). holds (there hosts t i).host.is.held name ≡ true) (sym within.1) on) in
         (x.1.0, x.0, x.1.1, x.1.2, x.2)
 
     pub is_missing : holds then d.name ≡ false → IsMissing then d.name.page [] d.name.source d.name.seq

@@ -12,8 +12,8 @@ use Rattle.wb_keeping.specs.Performing.{Keeping, after_doing, after_line, after_
 use Rattle.wb_keeping.proofs.EachStep.{line_of_parts}
 use Rattle.wb_keeping.proofs.KeptDelays.{IsReady, Keeps, Terms, parts_keep, ticks_so}
 use Rattle.wb_keeping.proofs.SpacedLines.{AreAll}
-use Rattle.wb_kept_progress.specs.Sessions.{AreTaken, LineAt, Opening, kept_at, opened}
-use Rattle.wb_kept_progress.specs.Timed.{KeptGoByShort, TimedLine, goes_by_delays, host_after, lines_of, start_of}
+use Rattle.wb_kept_progress.specs.Sessions.{AreTaken, At, Opening, kept_at, opened}
+use Rattle.wb_kept_progress.specs.Timed.{KeptGoByShort, goes_by_delays, host_after, start_of}
 use Rattle.wb_kept_progress.specs.Whole.{there}
 use Rattle.wb_kept_progress.proofs.CallLines.{host_before, lines_have_calls}
 
@@ -72,23 +72,23 @@ module _ (hosts : ℕ → Opening) where
   first_ready : (i : ℕ) → IsReady IsShort (opened (hosts i))
   first_ready i = record { delays = ticks_so IsShort (hosts i).moments (opened_with (hosts i).constants (hosts i).number (hosts i).cells (hosts i).seed) (λ source. omega arith); usual = omega arith }
 
-  are_ready : (lines : List LineAt) → AreTaken hosts lines → (i : ℕ) → IsReady IsShort (kept_at hosts lines i)
+  are_ready : (lines : List (At KeptLine)) → AreTaken hosts lines → (i : ℕ) → IsReady IsShort (kept_at hosts lines i)
   are_ready [] taken i = first_ready i
   are_ready (e ∷ older) taken i = by (nat_eq e.place i) refl (are_ready older taken.1 i) where
-    by : (b : Bool) → nat_eq e.place i ≡ b → IsReady IsShort (kept_at hosts older i) → IsReady IsShort (cond b (after_doing (doing_of e.line) (kept_at hosts older i)) (kept_at hosts older i))
-    by true here ready = (call_near e.line (kept_at hosts older i) (subst (λ (j : ℕ). fault_of e.line (kept_at hosts older j) ≡ None) (eqb-true e.place i here) taken.0) ready).1
+    by : (b : Bool) → nat_eq e.place i ≡ b → IsReady IsShort (kept_at hosts older i) → IsReady IsShort (cond b (after_doing (doing_of e.event) (kept_at hosts older i)) (kept_at hosts older i))
+    by true here ready = (call_near e.event (kept_at hosts older i) (subst (λ (j : ℕ). fault_of e.event (kept_at hosts older j) ≡ None) (eqb-true e.place i here) taken.0) ready).1
     by false apart ready = ready
 
-  taken_in : (newer older : List TimedLine) (e : TimedLine) → AreTaken hosts (lines_of (newer ++ e ∷ older)) → AreTaken hosts (lines_of (e ∷ older))
+  taken_in : (newer older : List (At KeptLine)) (e : At KeptLine) → AreTaken hosts (newer ++ e ∷ older) → AreTaken hosts (e ∷ older)
   taken_in [] older e taken = taken
   taken_in (x ∷ newer) older e taken = taken_in newer older e taken.1
 
 pub kept_go_by_short : KeptGoByShort
 kept_go_by_short hosts terms trace taken far newer older x source split live goes =
     let c = lines_have_calls hosts trace newer x older split in
-    let k = there hosts c.older c.e.at.place in
-    let here = taken_in hosts c.newer c.older c.e (subst (λ (t : List TimedLine). AreTaken hosts (lines_of t)) c.split taken) in
-    let call = call_near c.e.at.line k here.0 (are_ready hosts (lines_of c.older) here.1 c.e.at.place) in
-    let near = near_at c.before c.later x.line k.host (subst (λ (lines : List Line). GoNear lines k.host) c.lines call.0) goes in
+    let k = there hosts c.older c.e.place in
+    let here = taken_in hosts c.newer c.older c.e (subst (λ (t : List (At KeptLine)). AreTaken hosts t) c.split taken) in
+    let call = call_near c.e.event k here.0 (are_ready hosts c.older here.1 c.e.place) in
+    let near = near_at c.before c.later x.event k.host (subst (λ (lines : List Line). GoNear lines k.host) c.lines call.0) goes in
     let short : delay (host_after (λ j. start_of (hosts j)) older x.place) source ≤ MOST_DELAY = subst IsNear (sym (host_before hosts trace x older c)) near source in
     omega (arith, short, far)

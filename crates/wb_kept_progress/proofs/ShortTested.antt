@@ -12,12 +12,12 @@ use Rattle.wb_member.specs.Judged.{delay}
 use Rattle.wb_member.specs.Opened.{Opened, has_room_for, heard, may_ask, opened_with, present}
 use Rattle.wb_member.specs.declared.calls.Call.TheVariants.{Hear, SetDelay, Ask}
 use Rattle.wb_keeping.specs.Kept.{Line, Says, Calls}
-use Rattle.wb_keeping.specs.Laws.{doing_of}
+use Rattle.wb_keeping.specs.Laws.{KeptLine, doing_of}
 use Rattle.wb_keeping.specs.Performing.{Keeping, after_doing, after_line, after_lines, sees}
 use Rattle.wb_keeping.proofs.KeptDelays.{AreSo, ticks_so}
 use Rattle.wb_keeping.proofs.SpacedLines.{either_host, missing}
 use Rattle.wb_kept_progress.specs.Sessions.{Opening}
-use Rattle.wb_kept_progress.specs.Timed.{GoByShort, TimedLine, performed, start_of}
+use Rattle.wb_kept_progress.specs.Timed.{At, GoByShort, performed, start_of}
 use Rattle.wb_kept_progress.specs.Whole.{there}
 use Rattle.wb_kept_progress.proofs.CallLines.{host_before, lines_have_calls}
 
@@ -49,12 +49,12 @@ module _ (hosts : ℕ → Opening) (terms : Terms) where
   told_near [] host = true
   told_near (line ∷ lines) host = line_near host line && told_near lines (after_line line host)
 
-  abbrev pub call_near : TimedLine → Keeping → Bool
-  call_near e k = told_near (doing_of e.at.line (sees k.host) k.policy).lines k.host
+  abbrev pub call_near : At KeptLine → Keeping → Bool
+  call_near e k = told_near (doing_of e.event (sees k.host) k.policy).lines k.host
 
-  abbrev pub calls_near : List TimedLine → Bool
+  abbrev pub calls_near : List (At KeptLine) → Bool
   calls_near [] = true
-  calls_near (e ∷ older) = call_near e (there hosts older e.at.place) && calls_near older
+  calls_near (e ∷ older) = call_near e (there hosts older e.place) && calls_near older
 
   -- ---- what it tells of delays
 
@@ -108,31 +108,31 @@ module _ (hosts : ℕ → Opening) (terms : Terms) where
       let p = and_parts (line_near host first) _ near in
       near_at one other line (after_line first host) p.1 (after_near first host p.0 so)
 
-  near_before : (newer older : List TimedLine) → calls_near (newer ++ older) ≡ true → calls_near older ≡ true
+  near_before : (newer older : List (At KeptLine)) → calls_near (newer ++ older) ≡ true → calls_near older ≡ true
   near_before [] older near = near
-  near_before (e ∷ newer) older near = near_before newer older (and_parts (call_near e (there hosts (newer ++ older) e.at.place)) _ near).1
+  near_before (e ∷ newer) older near = near_before newer older (and_parts (call_near e (there hosts (newer ++ older) e.place)) _ near).1
 
   module _ (unknown : 100000 ≤ terms.far) where
-    are_near : (calls : List TimedLine) → calls_near calls ≡ true → (i : ℕ) → AreSo IsNear (there hosts calls i).host
+    are_near : (calls : List (At KeptLine)) → calls_near calls ≡ true → (i : ℕ) → AreSo IsNear (there hosts calls i).host
     are_near [] near i = ticks_so IsNear (hosts i).moments (opened_with (hosts i).constants (hosts i).number (hosts i).cells (hosts i).seed) (λ source. unknown)
-    are_near (e ∷ older) near i = by (nat_eq e.at.place i) refl (are_near older p.1 i) where
+    are_near (e ∷ older) near i = by (nat_eq e.place i) refl (are_near older p.1 i) where
       k : Keeping
       k = there hosts older i
 
-      p : (call_near e (there hosts older e.at.place) ≡ true) × (calls_near older ≡ true)
+      p : (call_near e (there hosts older e.place) ≡ true) × (calls_near older ≡ true)
       p = and_parts _ _ near
 
-      by : (b : Bool) → nat_eq e.at.place i ≡ b → AreSo IsNear (there hosts older i).host → AreSo IsNear (cond b (after_doing (doing_of e.at.line) (there hosts older i)) (there hosts older i)).host
-      by true here so = all_near (doing_of e.at.line (sees k.host) k.policy).lines k.host (subst (λ (j : ℕ). call_near e (there hosts older j) ≡ true) (eqb-true e.at.place i here) p.0) so
+      by : (b : Bool) → nat_eq e.place i ≡ b → AreSo IsNear (there hosts older i).host → AreSo IsNear (cond b (after_doing (doing_of e.event) (there hosts older i)) (there hosts older i)).host
+      by true here so = all_near (doing_of e.event (sees k.host) k.policy).lines k.host (subst (λ (j : ℕ). call_near e (there hosts older j) ≡ true) (eqb-true e.place i here) p.0) so
       by false apart so = so
 
-    pub go_by_short : (trace : List TimedLine) → calls_near trace ≡ true → GoByShort (λ j. start_of (hosts j)) terms (performed hosts trace)
+    pub go_by_short : (trace : List (At KeptLine)) → calls_near trace ≡ true → GoByShort (λ j. start_of (hosts j)) terms (performed hosts trace)
     go_by_short trace near newer older x source split live goes =
         let c = lines_have_calls hosts trace newer x older split in
-        let k = there hosts c.older c.e.at.place in
-        let here = near_before c.newer (c.e ∷ c.older) (subst (λ (calls : List TimedLine). calls_near calls ≡ true) c.split near) in
+        let k = there hosts c.older c.e.place in
+        let here = near_before c.newer (c.e ∷ c.older) (subst (λ (calls : List (At KeptLine)). calls_near calls ≡ true) c.split near) in
         let p = and_parts (call_near c.e k) _ here in
         let told = subst (λ (lines : List Line). told_near lines k.host ≡ true) c.lines p.0 in
-        let so = near_at c.before c.later x.line k.host told (are_near c.older p.1 c.e.at.place) in
+        let so = near_at c.before c.later x.event k.host told (are_near c.older p.1 c.e.place) in
         let back = subst (AreSo IsNear) (sym (host_before hosts trace x older c)) so in
         back source

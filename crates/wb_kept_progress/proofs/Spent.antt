@@ -17,9 +17,9 @@ at_most a b e = omega (arith, e)
 
 pub credit_is_spent : HeldWasHeld → CreditIsSpent
 credit_is_spent held_was hosts terms trace newer older e session split late =
-    let k = there hosts older e.at.place in
-    let next = there hosts (e ∷ older) e.at.place in
-    let now = moment_of e.at.line in
+    let k = there hosts older e.place in
+    let next = there hosts (e ∷ older) e.place in
+    let now = moment_of e.event in
     ⊎_elim
     (λ (more : IsMore k next). inr (inl (more_differs k next more)))
     (λ (c : IsCourse (λ n. IsHeldBySome hosts terms trace n) k now (does hosts e older) next). ⊎_elim

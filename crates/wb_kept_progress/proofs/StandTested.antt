@@ -20,18 +20,19 @@ use Rattle.wb_progress.specs.Turns.{Terms, longest}
 use Rattle.wb_member.specs.Judged.{delay}
 use Rattle.wb_member.specs.Opened.{Opened, events, opened_with}
 use Rattle.wb_keeping.specs.Kept.{Line}
-use Rattle.wb_keeping.specs.Laws.{doing_of}
+use Rattle.wb_keeping.specs.Laws.{KeptLine, doing_of}
 use Rattle.wb_keeping.specs.Performing.{Keeping, after_doing, sees}
 use Rattle.wb_keeping.proofs.KeptDelays.{AreSo, ticks_so}
 use Rattle.wb_kept_progress.specs.Sessions.{Opening}
-use Rattle.wb_kept_progress.specs.Timed.{DelaysAreShort, Performed, Start, TimedLine, host_after, performed, performed_then, start_of, timers_after, until}
-use Rattle.wb_kept_progress.specs.Whole.{AreCalledInOrder, there}
+use Rattle.wb_kept_progress.specs.Timed.{AreInOrder, At, DelaysAreShort, Start, host_after, performed, performed_then, start_of, timers_after, until}
+use Rattle.wb_kept_progress.specs.Whole.{there}
 use Rattle.wb_kept_progress.proofs.CallLines.{host_before, lines_have_calls}
-use Rattle.wb_kept_progress.proofs.CallParts.{calls_end, host_is, until_whole}
+use Rattle.wb_kept_progress.proofs.CallParts.{host_is}
 use Rattle.wb_kept_progress.proofs.KeptInTime.{time_is}
 use Rattle.wb_kept_progress.proofs.ShortTested.{all_near, call_near, near_at, told_near}
 use Rattle.wb_kept_progress.proofs.Testing.{each, each-at}
 use Rattle.wb_kept_progress.proofs.WholeParts.{does}
+use Rattle.wb_progress.proofs.Parts.{until_whole, before_end}
 
 -- ---- whose delay a call may tell
 
@@ -149,58 +150,58 @@ module _ (hosts : ℕ → Opening) (terms : Terms) where
   -- ---- tests of a session
 
   -- the calls up to `quiet`
-  abbrev pub early : List TimedLine → List TimedLine
+  abbrev pub early : List (At KeptLine) → List (At KeptLine)
   early [] = []
   early (e ∷ older) = if nat_le e.time terms.quiet then e ∷ older else early older
 
   -- from `quiet` on each call tells near delays, and so do those before
-  abbrev pub near_since : List TimedLine → Bool
+  abbrev pub near_since : List (At KeptLine) → Bool
   near_since [] = true
-  near_since (e ∷ older) = if nat_le e.time terms.quiet then each (λ (i : ℕ). delays_near (there hosts (e ∷ older) i).host) terms.live else (call_near hosts terms e (there hosts older e.at.place) && near_since older)
+  near_since (e ∷ older) = if nat_le e.time terms.quiet then each (λ (i : ℕ). delays_near (there hosts (e ∷ older) i).host) terms.live else (call_near hosts terms e (there hosts older e.place) && near_since older)
 
-  abbrev pub stands_at : List TimedLine → Bool
+  abbrev pub stands_at : List (At KeptLine) → Bool
   stands_at part = each (λ (i : ℕ). stand_near i (there hosts part i).host) terms.live
 
-  until_lines : (time place : ℕ) (lines : List Line) (older : List Performed) → terms.quiet < time → until terms.quiet (performed_then time place lines older) ≡ until terms.quiet older
+  until_lines : (time place : ℕ) (lines : List Line) (older : List (At Line)) → terms.quiet < time → until terms.quiet (performed_then time place lines older) ≡ until terms.quiet older
   until_lines time place [] older late = refl
   until_lines time place (line ∷ lines) older late =
-      until_lines time place lines (record { time = time; place = place; line = line } ∷ older) late
-      ∙ ap (λ (b : Bool). cond b (record { time = time; place = place; line = line } ∷ older) (until terms.quiet older)) (lt-leb time terms.quiet late)
+      until_lines time place lines (record { time = time; place = place; event = line } ∷ older) late
+      ∙ ap (λ (b : Bool). cond b (record { time = time; place = place; event = line } ∷ older) (until terms.quiet older)) (lt-leb time terms.quiet late)
 
-  until_early : (trace : List TimedLine) → until terms.quiet (performed hosts trace) ≡ performed hosts (early trace)
+  until_early : (trace : List (At KeptLine)) → until terms.quiet (performed hosts trace) ≡ performed hosts (early trace)
   until_early [] = refl
   until_early (e ∷ older) = by (until_early older) (nat_le e.time terms.quiet) (leb_tells e.time terms.quiet) where
     by : until terms.quiet (performed hosts older) ≡ performed hosts (early older) → (b : Bool) → ((b ≡ true) × (e.time ≤ terms.quiet)) ⊎ ((b ≡ false) × (terms.quiet < e.time)) → until terms.quiet (performed hosts (e ∷ older)) ≡ performed hosts (cond b (e ∷ older) (early older))
     by rest true tells = until_whole terms.quiet (performed hosts (e ∷ older)) (subst (λ (t : ℕ). t ≤ terms.quiet) (sym (time_is hosts (e ∷ older))) (⊎_elim (λ yes. yes.1) (λ no. absurd (true≢false no.0)) tells))
     by rest false tells = ⊎_elim
         (λ yes. absurd (true≢false (sym yes.0)))
-        (λ no. until_lines e.time e.at.place (does hosts e older) (performed hosts older) no.1 ∙ rest)
+        (λ no. until_lines e.time e.place (does hosts e older) (performed hosts older) no.1 ∙ rest)
         tells
 
   -- after `quiet`
-  near_late : (e : TimedLine) (older : List TimedLine) → terms.quiet < e.time → near_since (e ∷ older) ≡ true → (call_near hosts terms e (there hosts older e.at.place) && near_since older) ≡ true
+  near_late : (e : At KeptLine) (older : List (At KeptLine)) → terms.quiet < e.time → near_since (e ∷ older) ≡ true → (call_near hosts terms e (there hosts older e.place) && near_since older) ≡ true
   near_late e older late near =
-      subst (λ (b : Bool). cond b (each (λ (i : ℕ). delays_near (there hosts (e ∷ older) i).host) terms.live) (call_near hosts terms e (there hosts older e.at.place) && near_since older) ≡ true) (lt-leb e.time terms.quiet late) near
+      subst (λ (b : Bool). cond b (each (λ (i : ℕ). delays_near (there hosts (e ∷ older) i).host) terms.live) (call_near hosts terms e (there hosts older e.place) && near_since older) ≡ true) (lt-leb e.time terms.quiet late) near
 
-  near_before : (newer older : List TimedLine) (e : TimedLine) → AreCalledInOrder (newer ++ e ∷ older) → terms.quiet < e.time → near_since (newer ++ e ∷ older) ≡ true → near_since (e ∷ older) ≡ true
+  near_before : (newer older : List (At KeptLine)) (e : At KeptLine) → AreInOrder (newer ++ e ∷ older) → terms.quiet < e.time → near_since (newer ++ e ∷ older) ≡ true → near_since (e ∷ older) ≡ true
   near_before [] older e order late near = near
   near_before (x ∷ newer) older e order late near =
       let rest = newer ++ e ∷ older in
-      let le = calls_end newer (e ∷ older) order.1 in
+      let le = before_end newer (e ∷ older) order.1 in
       let o = order.0 in
-      near_before newer older e order.1 late (and_parts (call_near hosts terms x (there hosts rest x.at.place)) _ (near_late x rest (omega (arith, le, o, late)) near)).1
+      near_before newer older e order.1 late (and_parts (call_near hosts terms x (there hosts rest x.place)) _ (near_late x rest (omega (arith, le, o, late)) near)).1
 
   -- what stands of a name at `quiet`
-  abbrev pub there_stands : List TimedLine → ℕ → NameValue → Timers
+  abbrev pub there_stands : List (At KeptLine) → ℕ → NameValue → Timers
   there_stands trace i n = let host = (there hosts (early trace) i).host in timers_of host.is.constants (events host) n
 
-  pub stood : (trace : List TimedLine) (i : ℕ) (n : NameValue) → timers_after starts (until terms.quiet (performed hosts trace)) i n ≡ there_stands trace i n
+  pub stood : (trace : List (At KeptLine)) (i : ℕ) (n : NameValue) → timers_after starts (until terms.quiet (performed hosts trace)) i n ≡ there_stands trace i n
   stood trace i n =
-      ap (λ (t : List Performed). timers_after starts t i n) (until_early trace)
+      ap (λ (t : List (At Line)). timers_after starts t i n) (until_early trace)
       ∙ ap (λ (h : Opened). timers_of h.is.constants (events h) n) (host_is hosts (early trace) i)
 
   module _ (unknown : 100000 ≤ terms.far) where
-    are_near : (calls : List TimedLine) → near_since calls ≡ true → (i : ℕ) → Contains terms.live i → AreSo (λ micros. micros ≤ terms.far) (there hosts calls i).host
+    are_near : (calls : List (At KeptLine)) → near_since calls ≡ true → (i : ℕ) → Contains terms.live i → AreSo (λ micros. micros ≤ terms.far) (there hosts calls i).host
     are_near [] near i live = ticks_so (λ micros. micros ≤ terms.far) (hosts i).moments (opened_with (hosts i).constants (hosts i).number (hosts i).cells (hosts i).seed) (λ source. unknown)
     are_near (e ∷ older) near i live = by (λ rest. are_near older rest i live) (leb_tells e.time terms.quiet) where
       k : Keeping
@@ -210,32 +211,32 @@ module _ (hosts : ℕ → Opening) (terms : Terms) where
       Rest = near_since older ≡ true → AreSo (λ micros. micros ≤ terms.far) (there hosts older i).host
 
       late_so : Rest → terms.quiet < e.time → AreSo (λ micros. micros ≤ terms.far) (there hosts (e ∷ older) i).host
-      late_so rest late = here (nat_eq e.at.place i) refl (rest p.1) where
-        p : (call_near hosts terms e (there hosts older e.at.place) ≡ true) × (near_since older ≡ true)
+      late_so rest late = here (nat_eq e.place i) refl (rest p.1) where
+        p : (call_near hosts terms e (there hosts older e.place) ≡ true) × (near_since older ≡ true)
         p = and_parts _ _ (near_late e older late near)
 
-        here : (b : Bool) → nat_eq e.at.place i ≡ b → AreSo (λ micros. micros ≤ terms.far) k.host → AreSo (λ micros. micros ≤ terms.far) (cond b (after_doing (doing_of e.at.line) k) k).host
-        here true same so = all_near hosts terms (doing_of e.at.line (sees k.host) k.policy).lines k.host (subst (λ (j : ℕ). call_near hosts terms e (there hosts older j) ≡ true) (eqb-true e.at.place i same) p.0) so
+        here : (b : Bool) → nat_eq e.place i ≡ b → AreSo (λ micros. micros ≤ terms.far) k.host → AreSo (λ micros. micros ≤ terms.far) (cond b (after_doing (doing_of e.event) k) k).host
+        here true same so = all_near hosts terms (doing_of e.event (sees k.host) k.policy).lines k.host (subst (λ (j : ℕ). call_near hosts terms e (there hosts older j) ≡ true) (eqb-true e.place i same) p.0) so
         here false apart so = so
 
       by : Rest → ((nat_le e.time terms.quiet ≡ true) × (e.time ≤ terms.quiet)) ⊎ ((nat_le e.time terms.quiet ≡ false) × (terms.quiet < e.time)) → AreSo (λ micros. micros ≤ terms.far) (there hosts (e ∷ older) i).host
       by rest (inl soon) = near_so unknown (there hosts (e ∷ older) i).host (each-at (λ (j : ℕ). delays_near (there hosts (e ∷ older) j).host) terms.live i
-          (subst (λ (b : Bool). cond b (each (λ (j : ℕ). delays_near (there hosts (e ∷ older) j).host) terms.live) (call_near hosts terms e (there hosts older e.at.place) && near_since older) ≡ true) soon.0 near) live)
+          (subst (λ (b : Bool). cond b (each (λ (j : ℕ). delays_near (there hosts (e ∷ older) j).host) terms.live) (call_near hosts terms e (there hosts older e.place) && near_since older) ≡ true) soon.0 near) live)
       by rest (inr late) = late_so rest late.1
 
-    goes_short : (trace : List TimedLine) → AreCalledInOrder trace → near_since trace ≡ true → (newer older : List Performed) (x : Performed) (source : ℕ) → performed hosts trace ≡ newer ++ x ∷ older → Contains terms.live x.place → terms.quiet < x.time
+    goes_short : (trace : List (At KeptLine)) → AreInOrder trace → near_since trace ≡ true → (newer older : List (At Line)) (x : At Line) (source : ℕ) → performed hosts trace ≡ newer ++ x ∷ older → Contains terms.live x.place → terms.quiet < x.time
         → delay (host_after starts older x.place) source ≤ terms.far
     goes_short trace order near newer older x source split live late =
         let c = lines_have_calls hosts trace newer x older split in
-        let k = there hosts c.older c.e.at.place in
+        let k = there hosts c.older c.e.place in
         let late_call : terms.quiet < c.e.time = subst (λ (t : ℕ). terms.quiet < t) c.time late in
-        let here = near_before c.newer c.older c.e (subst AreCalledInOrder c.split order) late_call (subst (λ (calls : List TimedLine). near_since calls ≡ true) c.split near) in
+        let here = near_before c.newer c.older c.e (subst AreInOrder c.split order) late_call (subst (λ (calls : List (At KeptLine)). near_since calls ≡ true) c.split near) in
         let p = and_parts (call_near hosts terms c.e k) _ (near_late c.e c.older late_call here) in
         let told = subst (λ (lines : List Line). told_near hosts terms lines k.host ≡ true) c.lines p.0 in
-        let so = near_at hosts terms c.before c.later x.line k.host told (are_near c.older p.1 c.e.at.place (subst (Contains terms.live) c.place live)) in
+        let so = near_at hosts terms c.before c.later x.event k.host told (are_near c.older p.1 c.e.place (subst (Contains terms.live) c.place live)) in
         subst (AreSo (λ micros. micros ≤ terms.far)) (sym (host_before hosts trace x older c)) so source
 
-    pub short_of : (trace : List TimedLine) → AreCalledInOrder trace → near_since trace ≡ true → stands_at (early trace) ≡ true → DelaysAreShort starts terms (performed hosts trace)
+    pub short_of : (trace : List (At KeptLine)) → AreInOrder trace → near_since trace ≡ true → stands_at (early trace) ≡ true → DelaysAreShort starts terms (performed hosts trace)
     short_of trace order near stands = record {
       goes = λ newer older e source split live late goes. goes_short trace order near newer older e source split live late;
       asks = λ i n ask live is level. asks_so i (there_stands trace i n).ask ask (and_parts (ask_near i (there_stands trace i n).ask) _ (test i n live)).0 (ap (λ (s : Timers). s.ask) (sym (stood trace i n)) ∙ is) level;

@@ -8,23 +8,23 @@ use Rattle.wb_names.proofs.Listings.{Contains-here}
 use Rattle.wb_keeper.specs.Keeper.{holds}
 use Rattle.wb_progress.specs.InTime.{known_from, repairing}
 use Rattle.wb_progress.specs.Turns.{Terms, settled_by}
-use Rattle.wb_progress.proofs.Parts.{tails}
+use Rattle.wb_progress.proofs.Parts.{before_end, in_past, order_of, tails}
 use Rattle.wb_member.specs.Judged.{is_full}
 use Rattle.wb_member.specs.Opened.{Opened, present}
 use Rattle.wb_keeping.specs.Bounds.{answer_count, ask_count}
 use Rattle.wb_keeping.specs.Kept.{Line}
-use Rattle.wb_keeping.specs.Laws.{after_kept}
+use Rattle.wb_keeping.specs.Laws.{KeptLine, after_kept}
 use Rattle.wb_keeping.specs.Performing.{Keeping, after_lines}
 use Rattle.wb_keeping.proofs.KeptHosts.{kept_hosts_are_hosts}
 use Rattle.wb_keeping.proofs.LittleSaid.{few_names_are_asked}
 use Rattle.wb_kept_progress.specs.Rounds.{coming}
 use Rattle.wb_kept_progress.specs.Sessions as sessions
 use Rattle.wb_kept_progress.specs.Sessions.{Opening}
-use Rattle.wb_kept_progress.specs.Timed.{TimedLine, called_at, lines_of}
+use Rattle.wb_kept_progress.specs.Timed.{AreInOrder, At, time_of}
 use Rattle.wb_kept_progress.specs.Topped.{asks_since, asks_then}
-use Rattle.wb_kept_progress.specs.Whole.{AreCalledInOrder, HolesAreHeld, IsHeldBySome, IsTimelySession, WaitAtMost, request_span, there}
+use Rattle.wb_kept_progress.specs.Whole.{HolesAreHeld, IsHeldBySome, IsTimelySession, WaitAtMost, request_span, there}
 use Rattle.wb_kept_progress.proofs.AskedStays.{AsksOne}
-use Rattle.wb_kept_progress.proofs.CallParts.{calls_end, calls_order, due_by_turn}
+use Rattle.wb_kept_progress.proofs.CallParts.{due_by_turn}
 use Rattle.wb_kept_progress.proofs.ComeOnce.{HaveCome, have_come}
 use Rattle.wb_kept_progress.proofs.CrowdAsks.{before_newest, crowd_asks}
 use Rattle.wb_kept_progress.proofs.Crowds.{IsCrowd}
@@ -34,25 +34,24 @@ use Rattle.wb_kept_progress.proofs.OwedAndDue.{near_there, now_there, taken_of}
 use Rattle.wb_kept_progress.proofs.Owing.{asked_since}
 use Rattle.wb_kept_progress.proofs.RoundCounts.{IsThen, one_more, then_at}
 use Rattle.wb_kept_progress.proofs.StillOne.{IsAwake, awake_on, gives_up, same_then}
-use Rattle.wb_kept_progress.proofs.WindowParts.{calls_past}
 
 -- nothing is asked for after a time in calls up to it
-none_since : (hosts : ℕ → Opening) (since i : ℕ) (part : List TimedLine) → AreCalledInOrder part → called_at part ≤ since → asks_since hosts since i part ≡ 0
+none_since : (hosts : ℕ → Opening) (since i : ℕ) (part : List (At KeptLine)) → AreInOrder part → time_of part ≤ since → asks_since hosts since i part ≡ 0
 none_since hosts since i [] order ends = refl
 none_since hosts since i (e ∷ part) order ends =
     let first = order.0 in
     let rest = none_since hosts since i part order.1 (omega (arith, first, ends)) in
     let late = false_from_ne_true (nat_lt since e.time) (λ is. let lt = ltb-true since e.time is in omega (arith, lt, ends)) in
-    let none = ap (λ (b : Bool). cond (b && nat_eq e.at.place i) (asks_then hosts part e) 0) late in
+    let none = ap (λ (b : Bool). cond (b && nat_eq e.place i) (asks_then hosts part e) 0) late in
     omega (arith, rest, none)
 
-module _ (hosts : ℕ → Opening) (terms : Terms) (trace : List TimedLine) (wait crowds i : ℕ) (session : IsTimelySession hosts terms trace) (waits : WaitAtMost hosts terms trace wait) (holes_held : HolesAreHeld hosts terms trace) (live : Contains terms.live i)
-    (newer window base : List TimedLine) (e : TimedLine) (split : trace ≡ newer ++ e ∷ (window ++ base)) (settled : (front part : List TimedLine) (y : TimedLine) → window ≡ front ++ y ∷ part → settled_by terms < y.time)
+module _ (hosts : ℕ → Opening) (terms : Terms) (trace : List (At KeptLine)) (wait crowds i : ℕ) (session : IsTimelySession hosts terms trace) (waits : WaitAtMost hosts terms trace wait) (holes_held : HolesAreHeld hosts terms trace) (live : Contains terms.live i)
+    (newer window base : List (At KeptLine)) (e : At KeptLine) (split : trace ≡ newer ++ e ∷ (window ++ base)) (settled : (front part : List (At KeptLine)) (y : At KeptLine) → window ≡ front ++ y ∷ part → settled_by terms < y.time)
     (same : (there hosts (window ++ base) i).host.is.held ≡ (there hosts base i).host.is.held)
-    (front first : List TimedLine) (first_is : window ≡ front ++ first) (known : known_from terms + wait + repairing terms < called_at (first ++ base)) (one : AsksOne (λ n. IsHeldBySome hosts terms trace n) (there hosts (first ++ base) i))
-    (goes_on : called_at (first ++ base) + crowds * (2 * request_span terms) + coming terms < e.time) where
+    (front first : List (At KeptLine)) (first_is : window ≡ front ++ first) (known : known_from terms + wait + repairing terms < time_of (first ++ base)) (one : AsksOne (λ n. IsHeldBySome hosts terms trace n) (there hosts (first ++ base) i))
+    (goes_on : time_of (first ++ base) + crowds * (2 * request_span terms) + coming terms < e.time) where
   abbrev from : ℕ
-  from = called_at (first ++ base)
+  from = time_of (first ++ base)
 
   abbrev span : ℕ
   span = 2 * request_span terms
@@ -66,27 +65,27 @@ module _ (hosts : ℕ → Opening) (terms : Terms) (trace : List TimedLine) (wai
   upto : trace ≡ (newer ++ e ∷ []) ++ (window ++ base)
   upto = split ∙ sym (append_assoc newer (e ∷ []) (window ++ base))
 
-  order : AreCalledInOrder (e ∷ (window ++ base))
-  order = calls_order newer (e ∷ (window ++ base)) (subst AreCalledInOrder split session.order)
+  order : AreInOrder (e ∷ (window ++ base))
+  order = order_of newer (e ∷ (window ++ base)) (subst AreInOrder split session.order)
 
   -- a part that ends at a time or later, in which the host asks for a name
-  record IsLater (part : List TimedLine) : Type 0 where
-    rest : List TimedLine
-    middle : List TimedLine
+  record IsLater (part : List (At KeptLine)) : Type 0 where
+    rest : List (At KeptLine)
+    middle : List (At KeptLine)
     is : part ≡ (middle ++ first) ++ base
     within : window ≡ rest ++ (middle ++ first)
 
   -- the calls up to a time that is late enough, which another call follows
-  is_later : (newest part : List TimedLine) (y : TimedLine) → e ∷ (window ++ base) ≡ newest ++ y ∷ part → from < y.time → IsLater part
-  is_later newest part y same_calls after = by (calls_past newest (y ∷ part) (e ∷ front) (first ++ base) (sym same_calls ∙ parts) (subst AreCalledInOrder same_calls order) after) where
+  is_later : (newest part : List (At KeptLine)) (y : At KeptLine) → e ∷ (window ++ base) ≡ newest ++ y ∷ part → from < y.time → IsLater part
+  is_later newest part y same_calls after = by (in_past newest (y ∷ part) (e ∷ front) (first ++ base) (sym same_calls ∙ parts) (subst AreInOrder same_calls order) after) where
     parts : e ∷ (window ++ base) ≡ (e ∷ front) ++ (first ++ base)
-    parts = ap (λ (l : List TimedLine). e ∷ (l ++ base)) first_is ∙ ap (λ (l : List TimedLine). e ∷ l) (append_assoc front first base)
+    parts = ap (λ (l : List (At KeptLine)). e ∷ (l ++ base)) first_is ∙ ap (λ (l : List (At KeptLine)). e ∷ l) (append_assoc front first base)
 
-    inside : (newest : List TimedLine) → e ∷ (window ++ base) ≡ newest ++ y ∷ part → (rest : List TimedLine) × (window ++ base ≡ rest ++ part)
+    inside : (newest : List (At KeptLine)) → e ∷ (window ++ base) ≡ newest ++ y ∷ part → (rest : List (At KeptLine)) × (window ++ base ≡ rest ++ part)
     inside [] same_calls = ([], tails e y (window ++ base) part same_calls)
     inside (x ∷ newest) same_calls = (newest ++ y ∷ [], tails e x (window ++ base) (newest ++ y ∷ part) same_calls ∙ sym (append_assoc newest (y ∷ []) part))
 
-    from_middle : (middle : List TimedLine) → part ≡ middle ++ (first ++ base) → IsLater part
+    from_middle : (middle : List (At KeptLine)) → part ≡ middle ++ (first ++ base) → IsLater part
     from_middle middle is =
         let r = inside newest same_calls in
         let whole : part ≡ (middle ++ first) ++ base = is ∙ sym (append_assoc middle first base) in
@@ -94,17 +93,17 @@ module _ (hosts : ℕ → Opening) (terms : Terms) (trace : List TimedLine) (wai
           rest = r.0;
           middle = middle;
           is = whole;
-          within = append_cancel_right window (r.0 ++ (middle ++ first)) base (r.1 ∙ ap (λ (l : List TimedLine). r.0 ++ l) whole ∙ sym (append_assoc r.0 (middle ++ first) base));
+          within = append_cancel_right window (r.0 ++ (middle ++ first)) base (r.1 ∙ ap (λ (l : List (At KeptLine)). r.0 ++ l) whole ∙ sym (append_assoc r.0 (middle ++ first) base));
         }
 
-    by : (middle : List TimedLine) × (y ∷ part ≡ middle ++ (first ++ base)) → IsLater part
+    by : (middle : List (At KeptLine)) × (y ∷ part ≡ middle ++ (first ++ base)) → IsLater part
     by m = cases m.0 m.1 where
-      cases : (middle : List TimedLine) → y ∷ part ≡ middle ++ (first ++ base) → IsLater part
-      cases [] is = let time : y.time ≡ from = ap called_at is in absurd (omega (arith, time, after))
+      cases : (middle : List (At KeptLine)) → y ∷ part ≡ middle ++ (first ++ base) → IsLater part
+      cases [] is = let time : y.time ≡ from = ap time_of is in absurd (omega (arith, time, after))
       cases (x ∷ middle) is = from_middle middle (tails y x part (middle ++ (first ++ base)) is)
 
   -- in each two spans of a request 64 names are asked for
-  module _ (j : ℕ) (newest part : List TimedLine) (y : TimedLine) (same_calls : e ∷ (window ++ base) ≡ newest ++ y ∷ part) (after : at (suc j) < y.time) (late : at (suc j) + coming terms < e.time) where
+  module _ (j : ℕ) (newest part : List (At KeptLine)) (y : At KeptLine) (same_calls : e ∷ (window ++ base) ≡ newest ++ y ∷ part) (after : at (suc j) < y.time) (late : at (suc j) + coming terms < e.time) where
     next : at (suc j) ≡ at j + span
     next = next_at j
 
@@ -115,16 +114,16 @@ module _ (hosts : ℕ → Opening) (terms : Terms) (trace : List TimedLine) (wai
     p = then_at (x.next ∷ x.part) (at j) (let a = x.after in omega (arith, a))
 
     calls_x : e ∷ (window ++ base) ≡ (newest ++ x.front) ++ x.next ∷ x.part
-    calls_x = same_calls ∙ ap (λ (l : List TimedLine). newest ++ l) x.split ∙ sym (append_assoc newest x.front (x.next ∷ x.part))
+    calls_x = same_calls ∙ ap (λ (l : List (At KeptLine)). newest ++ l) x.split ∙ sym (append_assoc newest x.front (x.next ∷ x.part))
 
     calls_p : e ∷ (window ++ base) ≡ ((newest ++ x.front) ++ p.front) ++ p.next ∷ p.part
-    calls_p = calls_x ∙ ap (λ (l : List TimedLine). (newest ++ x.front) ++ l) p.split ∙ sym (append_assoc (newest ++ x.front) p.front (p.next ∷ p.part))
+    calls_p = calls_x ∙ ap (λ (l : List (At KeptLine)). (newest ++ x.front) ++ l) p.split ∙ sym (append_assoc (newest ++ x.front) p.front (p.next ∷ p.part))
 
-    order_y : AreCalledInOrder (y ∷ part)
-    order_y = calls_order newest (y ∷ part) (subst AreCalledInOrder same_calls order)
+    order_y : AreInOrder (y ∷ part)
+    order_y = order_of newest (y ∷ part) (subst AreInOrder same_calls order)
 
-    order_x : AreCalledInOrder (x.next ∷ x.part)
-    order_x = calls_order x.front (x.next ∷ x.part) (subst AreCalledInOrder x.split order_y)
+    order_x : AreInOrder (x.next ∷ x.part)
+    order_x = order_of x.front (x.next ∷ x.part) (subst AreInOrder x.split order_y)
 
     l : IsLater x.part
     l = is_later (newest ++ x.front) x.part x.next calls_x (let a = x.after in omega (arith, a))
@@ -132,30 +131,30 @@ module _ (hosts : ℕ → Opening) (terms : Terms) (trace : List TimedLine) (wai
     awake : IsAwake hosts terms trace i session holes_held live (newer ++ e ∷ []) window base upto settled same ((l.middle ++ first) ++ base)
     awake = awake_on hosts terms trace i session holes_held live (newer ++ e ∷ []) window base upto settled same l.rest l.middle first l.within one
 
-    behind : from ≤ called_at ((l.middle ++ first) ++ base)
-    behind = subst (λ (t : List TimedLine). from ≤ called_at t) (sym (append_assoc l.middle first base))
-        (calls_end l.middle (first ++ base) (subst AreCalledInOrder (l.is ∙ append_assoc l.middle first base) order_x.1))
+    behind : from ≤ time_of ((l.middle ++ first) ++ base)
+    behind = subst (λ (t : List (At KeptLine)). from ≤ time_of t) (sym (append_assoc l.middle first base))
+        (before_end l.middle (first ++ base) (subst AreInOrder (l.is ∙ append_assoc l.middle first base) order_x.1))
 
-    ends_x : called_at ((l.middle ++ first) ++ base) ≤ at j + request_span terms
-    ends_x = subst (λ (t : List TimedLine). called_at t ≤ at j + request_span terms) l.is x.by
+    ends_x : time_of ((l.middle ++ first) ++ base) ≤ at j + request_span terms
+    ends_x = subst (λ (t : List (At KeptLine)). time_of t ≤ at j + request_span terms) l.is x.by
 
-    crowd_then : (time : ℕ) × (x.next.time ≤ time) × (time ≤ called_at ((l.middle ++ first) ++ base) + request_span terms) × IsCrowd hosts terms trace i time
+    crowd_then : (time : ℕ) × (x.next.time ≤ time) × (time ≤ time_of ((l.middle ++ first) ++ base) + request_span terms) × IsCrowd hosts terms trace i time
     crowd_then = gives_up hosts terms trace wait i session waits holes_held live newer window base e split settled same l.rest (l.middle ++ first) (newest ++ x.front) x.next l.within
-        (calls_x ∙ ap (λ (t : List TimedLine). (newest ++ x.front) ++ x.next ∷ t) l.is) (let b = behind in omega (arith, known, b)) (let n = next in let b = ends_x in omega (arith, late, n, b)) awake
+        (calls_x ∙ ap (λ (t : List (At KeptLine)). (newest ++ x.front) ++ x.next ∷ t) l.is) (let b = behind in omega (arith, known, b)) (let n = next in let b = ends_x in omega (arith, late, n, b)) awake
 
     -- the calls of these two spans
     earlier : p.next.time < y.time
     earlier =
         let n = next in
-        let first_time : p.next.time ≤ x.next.time = subst (λ (t : List TimedLine). p.next.time ≤ called_at t) (sym p.split) (calls_end p.front (p.next ∷ p.part) (subst AreCalledInOrder p.split order_x)) in
+        let first_time : p.next.time ≤ x.next.time = subst (λ (t : List (At KeptLine)). p.next.time ≤ time_of t) (sym p.split) (before_end p.front (p.next ∷ p.part) (subst AreInOrder p.split order_x)) in
         let c = crowd_then in
         let a = c.1 in
         let b = c.2 in
         let d = ends_x in
         omega (arith, n, first_time, a, b, d, after)
 
-    two : (w : List TimedLine) × (part ≡ w ++ p.next ∷ p.part)
-    two = before_newest (x.front ++ p.front) y p.next part p.part (x.split ∙ ap (λ (t : List TimedLine). x.front ++ t) p.split ∙ sym (append_assoc x.front p.front (p.next ∷ p.part))) earlier
+    two : (w : List (At KeptLine)) × (part ≡ w ++ p.next ∷ p.part)
+    two = before_newest (x.front ++ p.front) y p.next part p.part (x.split ∙ ap (λ (t : List (At KeptLine)). x.front ++ t) p.split ∙ sym (append_assoc x.front p.front (p.next ∷ p.part))) earlier
 
     two_are : part ≡ (two.0 ++ p.next ∷ []) ++ p.part
     two_are = two.1 ∙ sym (append_assoc two.0 (p.next ∷ []) p.part)
@@ -164,18 +163,18 @@ module _ (hosts : ℕ → Opening) (terms : Terms) (trace : List TimedLine) (wai
     crowd_in =
         let c = crowd_then in
         crowd_asks hosts terms trace (newer ++ newest) (two.0 ++ p.next ∷ []) p.part y i c.0 session.order
-        (split ∙ ap (λ (t : List TimedLine). newer ++ t) same_calls ∙ sym (append_assoc newer newest (y ∷ part)) ∙ ap (λ (t : List TimedLine). (newer ++ newest) ++ y ∷ t) two_are)
+        (split ∙ ap (λ (t : List (At KeptLine)). newer ++ t) same_calls ∙ sym (append_assoc newer newest (y ∷ part)) ∙ ap (λ (t : List (At KeptLine)). (newer ++ newest) ++ y ∷ t) two_are)
         (let by = p.by in let a = c.1 in let b = x.after in omega (arith, by, a, b)) (let a = c.1 in let b = x.after in omega (arith, a, b, known))
         (let n = next in let b = c.2 in let d = ends_x in omega (arith, n, b, d, after)) c.3
 
     counts : 64 * j ≤ asks_since hosts from i p.part → 64 * suc j ≤ asks_since hosts from i part
     counts rest =
         let crowd = crowd_in in
-        let both = asked_since hosts i two.0 p.next p.part from (subst AreCalledInOrder two.1 order_y.1) (let a = p.after in omega (arith, a)) in
+        let both = asked_since hosts i two.0 p.next p.part from (subst AreInOrder two.1 order_y.1) (let a = p.after in omega (arith, a)) in
         let is = ap (asks_since hosts from i) two.1 in
         omega (arith, crowd, rest, both, is)
 
-  many : (j : ℕ) (newest part : List TimedLine) (y : TimedLine) → e ∷ (window ++ base) ≡ newest ++ y ∷ part → at j < y.time → at j + coming terms < e.time → 64 * j ≤ asks_since hosts from i part
+  many : (j : ℕ) (newest part : List (At KeptLine)) (y : At KeptLine) → e ∷ (window ++ base) ≡ newest ++ y ∷ part → at j < y.time → at j + coming terms < e.time → 64 * j ≤ asks_since hosts from i part
   many zero newest part y same_calls after late = omega arith
   many (suc j) newest part y same_calls after late =
       let first = p j newest part y same_calls after late in
@@ -198,20 +197,20 @@ module _ (hosts : ℕ → Opening) (terms : Terms) (trace : List TimedLine) (wai
     b = then_at (q.next ∷ q.part) from (let a = q.after in omega (arith, a))
 
     calls_b : e ∷ (window ++ base) ≡ (q.front ++ b.front) ++ b.next ∷ b.part
-    calls_b = q.split ∙ ap (λ (t : List TimedLine). q.front ++ t) b.split ∙ sym (append_assoc q.front b.front (b.next ∷ b.part))
+    calls_b = q.split ∙ ap (λ (t : List (At KeptLine)). q.front ++ t) b.split ∙ sym (append_assoc q.front b.front (b.next ∷ b.part))
 
-    order_q : AreCalledInOrder (q.next ∷ q.part)
-    order_q = calls_order q.front (q.next ∷ q.part) (subst AreCalledInOrder q.split order)
+    order_q : AreInOrder (q.next ∷ q.part)
+    order_q = order_of q.front (q.next ∷ q.part) (subst AreInOrder q.split order)
 
-    order_b : AreCalledInOrder (b.next ∷ b.part)
-    order_b = calls_order b.front (b.next ∷ b.part) (subst AreCalledInOrder b.split order_q)
+    order_b : AreInOrder (b.next ∷ b.part)
+    order_b = order_of b.front (b.next ∷ b.part) (subst AreInOrder b.split order_q)
 
     none_yet : asks_since hosts from i b.part ≡ 0
     none_yet = none_since hosts from i b.part order_b.1 b.by
 
-    w : (w : List TimedLine) × (q.part ≡ w ++ b.next ∷ b.part)
+    w : (w : List (At KeptLine)) × (q.part ≡ w ++ b.next ∷ b.part)
     w = by b.front b.split where
-      by : (part : List TimedLine) → q.next ∷ q.part ≡ part ++ b.next ∷ b.part → (w : List TimedLine) × (q.part ≡ w ++ b.next ∷ b.part)
+      by : (part : List (At KeptLine)) → q.next ∷ q.part ≡ part ++ b.next ∷ b.part → (w : List (At KeptLine)) × (q.part ≡ w ++ b.next ∷ b.part)
       by [] is =
           let many = asked in
           let none = none_yet in
@@ -219,7 +218,7 @@ module _ (hosts : ℕ → Opening) (terms : Terms) (trace : List TimedLine) (wai
           absurd (omega (arith, many, none, all, enough))
       by (x ∷ part) is = (part, tails q.next x q.part (part ++ b.next ∷ b.part) is)
 
-    abbrev calls : List TimedLine
+    abbrev calls : List (At KeptLine)
     calls = w.0 ++ b.next ∷ []
 
     whole : q.part ≡ calls ++ b.part
@@ -232,7 +231,7 @@ module _ (hosts : ℕ → Opening) (terms : Terms) (trace : List TimedLine) (wai
     asks =
         let many = asked in
         let none = none_yet in
-        let both = asked_since hosts i w.0 b.next b.part from (subst AreCalledInOrder w.1 order_q.1) b.after in
+        let both = asked_since hosts i w.0 b.next b.part from (subst AreInOrder w.1 order_q.1) b.after in
         let all = ap (asks_since hosts from i) w.1 in
         omega (arith, many, none, both, all)
 
@@ -243,24 +242,24 @@ module _ (hosts : ℕ → Opening) (terms : Terms) (trace : List TimedLine) (wai
     m = there hosts (calls ++ b.part) i
 
     split_b : trace ≡ (newer ++ (q.front ++ b.front)) ++ b.next ∷ b.part
-    split_b = split ∙ ap (λ (t : List TimedLine). newer ++ t) calls_b ∙ sym (append_assoc newer (q.front ++ b.front) (b.next ∷ b.part))
+    split_b = split ∙ ap (λ (t : List (At KeptLine)). newer ++ t) calls_b ∙ sym (append_assoc newer (q.front ++ b.front) (b.next ∷ b.part))
 
     upto_b : trace ≡ ((newer ++ (q.front ++ b.front)) ++ b.next ∷ []) ++ b.part
     upto_b = split_b ∙ sym (append_assoc (newer ++ (q.front ++ b.front)) (b.next ∷ []) b.part)
 
     upto_q : trace ≡ ((newer ++ q.front) ++ q.next ∷ []) ++ (calls ++ b.part)
     upto_q =
-        split ∙ ap (λ (t : List TimedLine). newer ++ t) q.split ∙ sym (append_assoc newer q.front (q.next ∷ q.part)) ∙ sym (append_assoc (newer ++ q.front) (q.next ∷ []) q.part)
-        ∙ ap (λ (t : List TimedLine). ((newer ++ q.front) ++ q.next ∷ []) ++ t) whole
+        split ∙ ap (λ (t : List (At KeptLine)). newer ++ t) q.split ∙ sym (append_assoc newer q.front (q.next ∷ q.part)) ∙ sym (append_assoc (newer ++ q.front) (q.next ∷ []) q.part)
+        ∙ ap (λ (t : List (At KeptLine)). ((newer ++ q.front) ++ q.next ∷ []) ++ t) whole
 
-    held_later : (newest part : List TimedLine) (y : TimedLine) → e ∷ (window ++ base) ≡ newest ++ y ∷ part → from < y.time → (there hosts part i).host.is.held ≡ (there hosts base i).host.is.held
+    held_later : (newest part : List (At KeptLine)) (y : At KeptLine) → e ∷ (window ++ base) ≡ newest ++ y ∷ part → from < y.time → (there hosts part i).host.is.held ≡ (there hosts base i).host.is.held
     held_later newest part y same_calls after =
         let l = is_later newest part y same_calls after in
-        ap (λ (t : List TimedLine). (there hosts t i).host.is.held) l.is ∙ same_then hosts terms trace i session holes_held live (newer ++ e ∷ []) window base upto settled same l.rest (l.middle ++ first) l.within
+        ap (λ (t : List (At KeptLine)). (there hosts t i).host.is.held) l.is ∙ same_then hosts terms trace i session holes_held live (newer ++ e ∷ []) window base upto settled same l.rest (l.middle ++ first) l.within
 
     held_same : m.host.is.held ≡ k.host.is.held
     held_same =
-        ap (λ (t : List TimedLine). (there hosts t i).host.is.held) (sym whole) ∙ held_later q.front q.part q.next q.split (let a = q.after in omega (arith, a))
+        ap (λ (t : List (At KeptLine)). (there hosts t i).host.is.held) (sym whole) ∙ held_later q.front q.part q.next q.split (let a = q.after in omega (arith, a))
         ∙ sym (held_later (q.front ++ b.front) b.part b.next calls_b b.after)
 
     same_keeping : after_kept (handed i calls) k ≡ m
@@ -269,10 +268,10 @@ module _ (hosts : ℕ → Opening) (terms : Terms) (trace : List TimedLine) (wai
     same_host : m.host ≡ after_lines lines k.host
     same_host = ap (λ (l : Keeping). l.host) (sym same_keeping) ∙ (kept_hosts_are_hosts (handed i calls) k).0
 
-    late_q : from ≤ called_at (calls ++ b.part)
-    late_q = subst (λ (t : List TimedLine). from ≤ called_at t) whole (let a = b.after in let end_b = first_time in omega (arith, a, end_b)) where
-      first_time : b.next.time ≤ called_at q.part
-      first_time = subst (λ (t : List TimedLine). b.next.time ≤ called_at t) (sym w.1) (calls_end w.0 (b.next ∷ b.part) (subst AreCalledInOrder w.1 order_q.1))
+    late_q : from ≤ time_of (calls ++ b.part)
+    late_q = subst (λ (t : List (At KeptLine)). from ≤ time_of t) whole (let a = b.after in let end_b = first_time in omega (arith, a, end_b)) where
+      first_time : b.next.time ≤ time_of q.part
+      first_time = subst (λ (t : List (At KeptLine)). b.next.time ≤ time_of t) (sym w.1) (before_end w.0 (b.next ∷ b.part) (subst AreInOrder w.1 order_q.1))
 
     room : is_full (after_lines lines k.host) ≡ false
     room = subst (λ (h : Opened). is_full h ≡ false) same_host (session.room ((newer ++ q.front) ++ q.next ∷ []) (calls ++ b.part) i upto_q live (let l = late_q in omega (arith, known, l)))
@@ -283,7 +282,7 @@ module _ (hosts : ℕ → Opening) (terms : Terms) (trace : List TimedLine) (wai
       undrawn : HasNoDrawing lines
       undrawn =
           performs_no_drawing hosts i calls b.part
-          (none_draws hosts terms trace session ((newer ++ q.front) ++ q.next ∷ []) calls b.part upto_q (late_from hosts terms trace session w.0 b.part b.next (subst AreCalledInOrder w.1 order_q.1) (let a = b.after in omega (arith, a, known))))
+          (none_draws hosts terms trace session ((newer ++ q.front) ++ q.next ∷ []) calls b.part upto_q (late_from hosts terms trace session w.0 b.part b.next (subst AreInOrder w.1 order_q.1) (let a = b.after in omega (arith, a, known))))
 
       by : HaveCome lines k.host → answer_count lines k.host ≡ 0
       by c = none c.names c.lacked c.held c.count where
@@ -307,12 +306,12 @@ module _ (hosts : ℕ → Opening) (terms : Terms) (trace : List TimedLine) (wai
     last_now : present m.host + terms.lag i ≤ end
     last_now =
         let now = now_there hosts terms trace ((newer ++ q.front) ++ q.next ∷ []) (calls ++ b.part) i session upto_q live in
-        let by : called_at (calls ++ b.part) ≤ end = subst (λ (t : List TimedLine). called_at t ≤ end) whole q.by in
+        let by : time_of (calls ++ b.part) ≤ end = subst (λ (t : List (At KeptLine)). time_of t ≤ end) whole q.by in
         omega (arith, now, by, known)
 
     pub not_still : ⊥
     not_still =
-        let taken = taken_of hosts ((newer ++ q.front) ++ q.next ∷ []) (calls ++ b.part) (subst (λ (t : List TimedLine). sessions.AreTaken hosts (lines_of t)) upto_q session.taken) in
+        let taken = taken_of hosts ((newer ++ q.front) ++ q.next ∷ []) (calls ++ b.part) (subst (λ (t : List (At KeptLine)). sessions.AreTaken hosts t) upto_q session.taken) in
         let few = few_names_are_asked (handed i calls) k (taken_handed hosts i calls b.part taken) in
         let none = no_answers in
         let many = asks in

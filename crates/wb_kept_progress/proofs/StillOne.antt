@@ -20,13 +20,12 @@ use Rattle.wb_keeping.proofs.PolicyCalls.{calls_are_of_policies}
 use Rattle.wb_kept_progress.specs.Promises.{timer_then}
 use Rattle.wb_kept_progress.specs.Rounds.{coming}
 use Rattle.wb_kept_progress.specs.Sessions.{AreTaken, Opening}
-use Rattle.wb_kept_progress.specs.Timed.{AllHoldBehind, AreInOrder, IsGivenUp, IsTimely, Start, TimedLine, called_at, lines_of, performed, start_of, time_of}
-use Rattle.wb_kept_progress.specs.Whole.{AreCalledInOrder, HolesAreHeld, IsHeldBySome, IsTimelySession, WaitAtMost, request_span, there}
+use Rattle.wb_kept_progress.specs.Timed.{AllHoldBehind, AreInOrder, At, IsGivenUp, IsTimely, Start, performed, start_of, time_of}
+use Rattle.wb_kept_progress.specs.Whole.{HolesAreHeld, IsHeldBySome, IsTimelySession, WaitAtMost, request_span, there}
 use Rattle.wb_kept_progress.proofs.AskedComes.{comes_or_is_given_up, the_ask, timer_of}
 use Rattle.wb_kept_progress.proofs.AskedInCalls.{HasAsk, IsMore, asks_as, more_differs}
 use Rattle.wb_kept_progress.proofs.AskedStays.{AsksOne, MayStay, StaysAsked, asks_one, stays_asked}
 use Rattle.wb_kept_progress.proofs.Becoming.{Appends, appends, nothing_more}
-use Rattle.wb_kept_progress.proofs.CallParts.{calls_order}
 use Rattle.wb_kept_progress.proofs.CallsInTime.{performed_is_timely}
 use Rattle.wb_kept_progress.proofs.Causes.{goes}
 use Rattle.wb_kept_progress.proofs.Courses.{IsCourse}
@@ -42,6 +41,7 @@ use Rattle.wb_kept_progress.proofs.RoundCounts.{held_before, since_next}
 use Rattle.wb_kept_progress.proofs.Turning.{answers_at}
 use Rattle.wb_kept_progress.proofs.TurnNames.{turn_missing}
 use Rattle.wb_kept_progress.proofs.WholeParts.{HasTurn, does}
+use Rattle.wb_progress.proofs.Parts.{order_of}
 
 -- some line asks for a name
 pub an_ask : (calls : List KeptLine) (k : Keeping) → 1 ≤ ask_count (expand calls k) → HasAsk (expand calls k)
@@ -57,17 +57,17 @@ an_ask calls k some = by (filter is_ask lines) refl where
 
 -- ---- one call that brings nothing new
 
-module _ (hosts : ℕ → Opening) (terms : Terms) (trace : List TimedLine) (session : IsTimelySession hosts terms trace) (holes_held : HolesAreHeld hosts terms trace) (newer older : List TimedLine) (e : TimedLine)
-    (split : trace ≡ newer ++ e ∷ older) (live : Contains terms.live e.at.place) (settled : settled_by terms < e.time)
-    (same : (there hosts (e ∷ older) e.at.place).host.is.held ≡ (there hosts older e.at.place).host.is.held) where
+module _ (hosts : ℕ → Opening) (terms : Terms) (trace : List (At KeptLine)) (session : IsTimelySession hosts terms trace) (holes_held : HolesAreHeld hosts terms trace) (newer older : List (At KeptLine)) (e : At KeptLine)
+    (split : trace ≡ newer ++ e ∷ older) (live : Contains terms.live e.place) (settled : settled_by terms < e.time)
+    (same : (there hosts (e ∷ older) e.place).host.is.held ≡ (there hosts older e.place).host.is.held) where
   abbrev IsSome : NameValue → Type 0
   IsSome n = IsHeldBySome hosts terms trace n
 
   abbrev place : ℕ
-  place = e.at.place
+  place = e.place
 
   abbrev now : ℕ
-  now = moment_of e.at.line
+  now = moment_of e.event
 
   abbrev k : Keeping
   k = there hosts older place
@@ -76,16 +76,16 @@ module _ (hosts : ℕ → Opening) (terms : Terms) (trace : List TimedLine) (ses
   next = there hosts (e ∷ older) place
 
   abbrev done : Keeping
-  done = after_doing (doing_of e.at.line) k
+  done = after_doing (doing_of e.event) k
 
   abbrev lines : List Line
   lines = does hosts e older
 
   next_is : next ≡ done
-  next_is = moved hosts (lines_of older) place e.at.line
+  next_is = moved hosts older place e.event
 
-  none : fault_of e.at.line k ≡ None
-  none = (taken_of hosts newer (e ∷ older) (subst (λ (t : List TimedLine). AreTaken hosts (lines_of t)) split session.taken)).0
+  none : fault_of e.event k ≡ None
+  none = (taken_of hosts newer (e ∷ older) (subst (λ (t : List (At KeptLine)). AreTaken hosts t) split session.taken)).0
 
   c : IsCourse IsSome k now lines next
   c = ⊎_elim (λ (more : IsMore k next). absurd (more_differs k next more same)) (λ (course : IsCourse IsSome k now lines next). course) (goes held_was_held hosts terms trace session newer older e split settled)
@@ -99,13 +99,13 @@ module _ (hosts : ℕ → Opening) (terms : Terms) (trace : List TimedLine) (ses
 
   may : MayStay IsSome k lines done
   may = record {
-    answers_held = answers_at hosts (lines_of older) place;
+    answers_held = answers_at hosts older place;
     room = subst (λ (x : Keeping). is_full x.host ≡ false) next_is (session.room newer (e ∷ older) place split live (omega (arith, settled)));
     asks = asks_as (λ x. IsSome x ⊎ HasTurn k now x) IsSome in_turn lines c.asks;
   }
 
   stays : StaysAsked IsSome k lines done
-  stays = stays_asked IsSome e.at.line k none
+  stays = stays_asked IsSome e.event k none
 
   still_asks : AsksOne IsSome done ⊎ IsMore k done → AsksOne IsSome next
   still_asks is = ⊎_elim
@@ -121,38 +121,38 @@ module _ (hosts : ℕ → Opening) (terms : Terms) (trace : List TimedLine) (ses
 
 -- ---- a window in which nothing new comes to one of them
 
-module _ (hosts : ℕ → Opening) (terms : Terms) (trace : List TimedLine) (i : ℕ) (session : IsTimelySession hosts terms trace) (holes_held : HolesAreHeld hosts terms trace) (live : Contains terms.live i) (newer window base : List TimedLine)
-    (split : trace ≡ newer ++ (window ++ base)) (settled : (front part : List TimedLine) (y : TimedLine) → window ≡ front ++ y ∷ part → settled_by terms < y.time)
+module _ (hosts : ℕ → Opening) (terms : Terms) (trace : List (At KeptLine)) (i : ℕ) (session : IsTimelySession hosts terms trace) (holes_held : HolesAreHeld hosts terms trace) (live : Contains terms.live i) (newer window base : List (At KeptLine))
+    (split : trace ≡ newer ++ (window ++ base)) (settled : (front part : List (At KeptLine)) (y : At KeptLine) → window ≡ front ++ y ∷ part → settled_by terms < y.time)
     (same : (there hosts (window ++ base) i).host.is.held ≡ (there hosts base i).host.is.held) where
-  abbrev pub IsAwake : List TimedLine → Type 0
+  abbrev pub IsAwake : List (At KeptLine) → Type 0
   IsAwake calls = AsksOne (λ n. IsHeldBySome hosts terms trace n) (there hosts calls i)
 
-  abbrev held_in : List TimedLine → List DrawopValue
+  abbrev held_in : List (At KeptLine) → List DrawopValue
   held_in calls = (there hosts calls i).host.is.held
 
   -- what is held stays all the while
-  pub same_then : (front part : List TimedLine) → window ≡ front ++ part → held_in (part ++ base) ≡ held_in base
+  pub same_then : (front part : List (At KeptLine)) → window ≡ front ++ part → held_in (part ++ base) ≡ held_in base
   same_then front part is = nothing_more (held_in base) (held_in (part ++ base)) (held_in (window ++ base)) (appends hosts part base i)
-      (subst (λ (t : List TimedLine). Appends (held_in (part ++ base)) (held_in t)) (sym (ap (λ (t : List TimedLine). t ++ base) is ∙ append_assoc front part base)) (appends hosts front (part ++ base) i)) same
+      (subst (λ (t : List (At KeptLine)). Appends (held_in (part ++ base)) (held_in t)) (sym (ap (λ (t : List (At KeptLine)). t ++ base) is ∙ append_assoc front part base)) (appends hosts front (part ++ base) i)) same
 
-  module _ (front part : List TimedLine) (e : TimedLine) (is : window ≡ front ++ e ∷ part) where
+  module _ (front part : List (At KeptLine)) (e : At KeptLine) (is : window ≡ front ++ e ∷ part) where
     here_split : trace ≡ (newer ++ front) ++ e ∷ (part ++ base)
-    here_split = split ∙ ap (λ (t : List TimedLine). newer ++ (t ++ base)) is ∙ ap (λ (t : List TimedLine). newer ++ t) (append_assoc front (e ∷ part) base) ∙ sym (append_assoc newer front (e ∷ (part ++ base)))
+    here_split = split ∙ ap (λ (t : List (At KeptLine)). newer ++ (t ++ base)) is ∙ ap (λ (t : List (At KeptLine)). newer ++ t) (append_assoc front (e ∷ part) base) ∙ sym (append_assoc newer front (e ∷ (part ++ base)))
 
     call_same : held_in (e ∷ (part ++ base)) ≡ held_in (part ++ base)
     call_same = same_then front (e ∷ part) is ∙ sym (same_then (front ++ e ∷ []) part (is ∙ sym (append_assoc front (e ∷ []) part)))
 
-    module _ (here : nat_eq e.at.place i ≡ true) where
-      at_i : e.at.place ≡ i
-      at_i = eqb-true e.at.place i here
+    module _ (here : nat_eq e.place i ≡ true) where
+      at_i : e.place ≡ i
+      at_i = eqb-true e.place i here
 
-      abbrev Asking : ℕ → List TimedLine → Type 0
+      abbrev Asking : ℕ → List (At KeptLine) → Type 0
       Asking p calls = AsksOne (λ n. IsHeldBySome hosts terms trace n) (there hosts calls p)
 
-      same_at : (there hosts (e ∷ (part ++ base)) e.at.place).host.is.held ≡ (there hosts (part ++ base) e.at.place).host.is.held
+      same_at : (there hosts (e ∷ (part ++ base)) e.place).host.is.held ≡ (there hosts (part ++ base) e.place).host.is.held
       same_at = subst (λ (p : ℕ). (there hosts (e ∷ (part ++ base)) p).host.is.held ≡ (there hosts (part ++ base) p).host.is.held) (sym at_i) call_same
 
-      live_at : Contains terms.live e.at.place
+      live_at : Contains terms.live e.place
       live_at = subst (Contains terms.live) (sym at_i) live
 
       on_here : IsAwake (part ++ base) → IsAwake (e ∷ (part ++ base))
@@ -164,51 +164,51 @@ module _ (hosts : ℕ → Opening) (terms : Terms) (trace : List TimedLine) (i :
           (call_begins hosts terms trace session holes_held (newer ++ front) (part ++ base) e here_split live_at (settled front part e is) same_at h)
 
     pub one_on : IsAwake (part ++ base) → IsAwake (e ∷ (part ++ base))
-    one_on awake = by (nat_eq e.at.place i) refl where
-      by : (b : Bool) → nat_eq e.at.place i ≡ b → IsAwake (e ∷ (part ++ base))
+    one_on awake = by (nat_eq e.place i) refl where
+      by : (b : Bool) → nat_eq e.place i ≡ b → IsAwake (e ∷ (part ++ base))
       by false other = subst (AsksOne (λ n. IsHeldBySome hosts terms trace n)) (sym (there_other hosts e (part ++ base) i other)) awake
       by true here = on_here here awake
 
   -- it goes on
-  pub awake_on : (front middle part : List TimedLine) → window ≡ front ++ (middle ++ part) → IsAwake (part ++ base) → IsAwake ((middle ++ part) ++ base)
+  pub awake_on : (front middle part : List (At KeptLine)) → window ≡ front ++ (middle ++ part) → IsAwake (part ++ base) → IsAwake ((middle ++ part) ++ base)
   awake_on front [] part is awake = awake
   awake_on front (e ∷ middle) part is awake =
       one_on front (middle ++ part) e is (awake_on (front ++ e ∷ []) middle part (is ∙ sym (append_assoc front (e ∷ []) (middle ++ part))) awake)
 
   -- and it began if a name was asked for
-  pub awake_by : (front part : List TimedLine) (m : NameValue) → window ≡ front ++ part → Contains (performs_in hosts i part base) (Calls (Ask m)) → IsAwake (part ++ base)
+  pub awake_by : (front part : List (At KeptLine)) (m : NameValue) → window ≡ front ++ part → Contains (performs_in hosts i part base) (Calls (Ask m)) → IsAwake (part ++ base)
   awake_by front [] m is c = absurd (Contains-none (Calls (Ask m)) c)
-  awake_by front (e ∷ part) m is c = by (awake_by (front ++ e ∷ []) part m later) (nat_eq e.at.place i) refl c where
+  awake_by front (e ∷ part) m is c = by (awake_by (front ++ e ∷ []) part m later) (nat_eq e.place i) refl c where
     first : Keeping
     first = there hosts base i
 
     later : window ≡ (front ++ e ∷ []) ++ part
     later = is ∙ sym (append_assoc front (e ∷ []) part)
 
-    of_call : nat_eq e.at.place i ≡ true → Contains (expand (e.at.line ∷ []) (after_kept (handed i part) first)) (Calls (Ask m)) → HasAsk (does hosts e (part ++ base))
+    of_call : nat_eq e.place i ≡ true → Contains (expand (e.event ∷ []) (after_kept (handed i part) first)) (Calls (Ask m)) → HasAsk (does hosts e (part ++ base))
     of_call here d =
         let k = there hosts (part ++ base) i in
-        let there_k = subst (λ (x : Keeping). Contains ((doing_of e.at.line (sees x.host) x.policy).lines ++ []) (Calls (Ask m))) (after_handed hosts i part base) d in (
+        let there_k = subst (λ (x : Keeping). Contains ((doing_of e.event (sees x.host) x.policy).lines ++ []) (Calls (Ask m))) (after_handed hosts i part base) d in (
           m,
-          subst (λ (p : ℕ). Contains (let x = there hosts (part ++ base) p in (doing_of e.at.line (sees x.host) x.policy).lines) (Calls (Ask m))) (sym (eqb-true e.at.place i here))
+          subst (λ (p : ℕ). Contains (let x = there hosts (part ++ base) p in (doing_of e.event (sees x.host) x.policy).lines) (Calls (Ask m))) (sym (eqb-true e.place i here))
               (⊎_elim
-              (λ (c : Contains (doing_of e.at.line (sees k.host) k.policy).lines (Calls (Ask m))). c)
+              (λ (c : Contains (doing_of e.event (sees k.host) k.policy).lines (Calls (Ask m))). c)
               (λ (none : Contains [] (Calls (Ask m))). absurd (Contains-none (Calls (Ask m)) none))
-              (Contains-append_cases (doing_of e.at.line (sees k.host) k.policy).lines [] (Calls (Ask m)) there_k)),
+              (Contains-append_cases (doing_of e.event (sees k.host) k.policy).lines [] (Calls (Ask m)) there_k)),
         )
 
-    by : (Contains (expand (handed i part) first) (Calls (Ask m)) → IsAwake (part ++ base)) → (b : Bool) → nat_eq e.at.place i ≡ b → Contains (expand (cond b (handed i part ++ e.at.line ∷ []) (handed i part)) first) (Calls (Ask m)) → IsAwake (e ∷ (part ++ base))
+    by : (Contains (expand (handed i part) first) (Calls (Ask m)) → IsAwake (part ++ base)) → (b : Bool) → nat_eq e.place i ≡ b → Contains (expand (cond b (handed i part ++ e.event ∷ []) (handed i part)) first) (Calls (Ask m)) → IsAwake (e ∷ (part ++ base))
     by rest false other c = one_on front part e is (rest c)
     by rest true here c = ⊎_elim
         (λ (old : Contains (expand (handed i part) first) (Calls (Ask m))). one_on front part e is (rest old))
-        (λ (new : Contains (expand (e.at.line ∷ []) (after_kept (handed i part) first)) (Calls (Ask m))). begins_here front part e is here (of_call here new))
-        (Contains-append_cases (expand (handed i part) first) (expand (e.at.line ∷ []) (after_kept (handed i part) first)) (Calls (Ask m))
-        (subst (λ (ls : List Line). Contains ls (Calls (Ask m))) (expand_both (handed i part) (e.at.line ∷ []) first) c))
+        (λ (new : Contains (expand (e.event ∷ []) (after_kept (handed i part) first)) (Calls (Ask m))). begins_here front part e is here (of_call here new))
+        (Contains-append_cases (expand (handed i part) first) (expand (e.event ∷ []) (after_kept (handed i part) first)) (Calls (Ask m))
+        (subst (λ (ls : List Line). Contains ls (Calls (Ask m))) (expand_both (handed i part) (e.event ∷ []) first) c))
 
 -- ---- what it asks for is given up
 
-module _ (hosts : ℕ → Opening) (terms : Terms) (trace : List TimedLine) (wait i : ℕ) (session : IsTimelySession hosts terms trace) (waits : WaitAtMost hosts terms trace wait) (holes_held : HolesAreHeld hosts terms trace) (live : Contains terms.live i)
-    (newer window base : List TimedLine) (e : TimedLine) (split : trace ≡ newer ++ e ∷ (window ++ base)) (settled : (front part : List TimedLine) (y : TimedLine) → window ≡ front ++ y ∷ part → settled_by terms < y.time)
+module _ (hosts : ℕ → Opening) (terms : Terms) (trace : List (At KeptLine)) (wait i : ℕ) (session : IsTimelySession hosts terms trace) (waits : WaitAtMost hosts terms trace wait) (holes_held : HolesAreHeld hosts terms trace) (live : Contains terms.live i)
+    (newer window base : List (At KeptLine)) (e : At KeptLine) (split : trace ≡ newer ++ e ∷ (window ++ base)) (settled : (front part : List (At KeptLine)) (y : At KeptLine) → window ≡ front ++ y ∷ part → settled_by terms < y.time)
     (same : (there hosts (window ++ base) i).host.is.held ≡ (there hosts base i).host.is.held) where
   abbrev starts : ℕ → Start
   starts j = start_of (hosts j)
@@ -220,13 +220,13 @@ module _ (hosts : ℕ → Opening) (terms : Terms) (trace : List TimedLine) (wai
   timely = performed_is_timely hosts terms trace session
 
   -- after a call, of which the next is `y`
-  module _ (front part rest : List TimedLine) (y : TimedLine) (is : window ≡ front ++ part) (next_is : e ∷ (window ++ base) ≡ rest ++ y ∷ (part ++ base)) (known : known_from terms + wait + repairing terms < called_at (part ++ base))
-      (goes_on : called_at (part ++ base) + coming terms < e.time) (one : AsksOne (λ n. IsHeldBySome hosts terms trace n) (there hosts (part ++ base) i)) where
-    abbrev calls : List TimedLine
+  module _ (front part rest : List (At KeptLine)) (y : At KeptLine) (is : window ≡ front ++ part) (next_is : e ∷ (window ++ base) ≡ rest ++ y ∷ (part ++ base)) (known : known_from terms + wait + repairing terms < time_of (part ++ base))
+      (goes_on : time_of (part ++ base) + coming terms < e.time) (one : AsksOne (λ n. IsHeldBySome hosts terms trace n) (there hosts (part ++ base) i)) where
+    abbrev calls : List (At KeptLine)
     calls = part ++ base
 
     split_y : trace ≡ (newer ++ rest) ++ y ∷ calls
-    split_y = split ∙ ap (λ (t : List TimedLine). newer ++ t) next_is ∙ sym (append_assoc newer rest (y ∷ calls))
+    split_y = split ∙ ap (λ (t : List (At KeptLine)). newer ++ t) next_is ∙ sym (append_assoc newer rest (y ∷ calls))
 
     upto_y : trace ≡ ((newer ++ rest) ++ y ∷ []) ++ calls
     upto_y = split_y ∙ sym (append_assoc (newer ++ rest) (y ∷ []) calls)
@@ -235,7 +235,7 @@ module _ (hosts : ℕ → Opening) (terms : Terms) (trace : List TimedLine) (wai
     lacked : holds (there hosts (window ++ base) i).host.is.held one.name ≡ false
     lacked = ap (λ (held : List DrawopValue). holds held one.name) (same ∙ sym (same_then hosts terms trace i session holes_held live (newer ++ e ∷ []) window base upto settled same front part is)) ∙ one.lacks
 
-    pub gives_up : (time : ℕ) × (y.time ≤ time) × (time ≤ called_at calls + request_span terms) × IsCrowd hosts terms trace i time
+    pub gives_up : (time : ℕ) × (y.time ≤ time) × (time ≤ time_of calls + request_span terms) × IsCrowd hosts terms trace i time
     gives_up =
         let f = front_of hosts ((newer ++ rest) ++ y ∷ []) calls in
         let at = time_is hosts calls in
@@ -248,7 +248,7 @@ module _ (hosts : ℕ → Opening) (terms : Terms) (trace : List TimedLine) (wai
         (comes_or_is_given_up hosts terms trace wait timely waits f.0 (performed hosts calls) i one.name t.0 (ap (performed hosts) upto_y ∙ f.1) (omega (arith, known, at)) live one.is t.1) where
           given_up : (ask : AskTimer) → timer_then hosts (performed hosts calls) i one.name ≡ Some ask → ask.level ≡ 0
               → IsGivenUp starts (performed hosts trace) (performed hosts calls) i one.name ask (max (time_of (performed hosts calls)) (time_of (performed hosts calls) + terms.asking * terms.far) + terms.late)
-              → (time : ℕ) × (y.time ≤ time) × (time ≤ called_at calls + request_span terms) × IsCrowd hosts terms trace i time
+              → (time : ℕ) × (y.time ≤ time) × (time ≤ time_of calls + request_span terms) × IsCrowd hosts terms trace i time
           given_up ask stands new g = (
             g.e.time,
             behind,
@@ -256,11 +256,11 @@ module _ (hosts : ℕ → Opening) (terms : Terms) (trace : List TimedLine) (wai
             crowd hosts terms trace i session timely live g.front (g.between ++ performed hosts calls) g.e g.split late one.name ask g.place g.line g.stands new,
           ) where
             behind : y.time ≤ g.e.time
-            behind = since_next hosts (newer ++ rest) calls y g.front g.between g.e (subst AreCalledInOrder split_y session.order)
-                (subst (λ (l : List TimedLine). AreInOrder (performed hosts l)) split_y timely.order) (sym (ap (performed hosts) split_y) ∙ g.split)
+            behind = since_next hosts (newer ++ rest) calls y g.front g.between g.e (subst AreInOrder split_y session.order)
+                (subst (λ (l : List (At KeptLine)). AreInOrder (performed hosts l)) split_y timely.order) (sym (ap (performed hosts) split_y) ∙ g.split)
 
-            by_end : g.e.time ≤ called_at calls + request_span terms
+            by_end : g.e.time ≤ time_of calls + request_span terms
             by_end = let soon = g.soon in let at = time_is hosts calls in omega (arith, soon, at)
 
             late : terms.quiet < g.e.time
-            late = let f = behind in let o = (calls_order (newer ++ rest) (y ∷ calls) (subst AreCalledInOrder split_y session.order)).0 in omega (arith, f, o, known)
+            late = let f = behind in let o = (order_of (newer ++ rest) (y ∷ calls) (subst AreInOrder split_y session.order)).0 in omega (arith, f, o, known)

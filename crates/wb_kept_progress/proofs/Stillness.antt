@@ -24,23 +24,25 @@ use Rattle.wb_policy.specs.Wanting.{oldest}
 use Rattle.wb_policy.specs.declared.wanting.AskedName.{AskedName}
 use Rattle.wb_kept_progress.specs.Promises.{GivesUpForAnother, Holds, IsForAnother, IsLate, IsStill, host_then, timer_then}
 use Rattle.wb_kept_progress.specs.Sessions.{Opening}
-use Rattle.wb_kept_progress.specs.Timed.{AllHoldBehind, AreInOrder, IsGivenUp, IsTimely, Performed, Start, TellTimes, TimedLine, TimerLeadsOrIsGivenUp, called_at, performed, start_of, time_of, until}
-use Rattle.wb_kept_progress.specs.Whole.{AreCalledInOrder, IsHeldBySome, IsLackedAt, Lack, NewAreKept, Sizes, request_span, there}
+use Rattle.wb_kept_progress.specs.Timed.{AllHoldBehind, AreInOrder, At, IsGivenUp, IsTimely, Start, TellTimes, TimerLeadsOrIsGivenUp, performed, start_of, time_of, until}
+use Rattle.wb_kept_progress.specs.Whole.{IsHeldBySome, IsLackedAt, Lack, NewAreKept, Sizes, request_span, there}
 use Rattle.wb_kept_progress.proofs.AskedComes.{asked_comes}
 use Rattle.wb_kept_progress.proofs.AskedSince.{WasAsked, was_asked}
-use Rattle.wb_kept_progress.proofs.CallParts.{calls_end, calls_order, host_is, lacked_until, lines_order}
+use Rattle.wb_kept_progress.proofs.CallParts.{host_is, lacked_until, lines_order}
 use Rattle.wb_kept_progress.proofs.Crowds.{none_below}
 use Rattle.wb_kept_progress.proofs.KeptInTime.{front_of, time_is}
 use Rattle.wb_kept_progress.proofs.Moments.{IsTuned, moment_of}
-use Rattle.wb_kept_progress.proofs.Timely.{before_end, held_later, in_past, none_held, order_of}
+use Rattle.wb_kept_progress.proofs.Timely.{held_later, none_held}
 use Rattle.wb_kept_progress.proofs.TurnsHad.{AreOrdinary, Had, had}
 use Rattle.wb_kept_progress.proofs.WholeParts.{AsksHaveCause, HasTurn, IsOfCall, LinesHaveCalls, PerformedIsTimely, StillnessEnds, StopsHaveCause, TimersAreYoung, does}
-use Rattle.wb_kept_progress.proofs.WindowParts.{IsInWindow, in_window, line_by, told_in, two_parts}
+use Rattle.wb_kept_progress.proofs.WindowParts.{IsInWindow, in_window, line_by, told_in}
 use Rattle.wb_kept_progress.proofs.YoungestAsked.{Others, new_level, new_timer, others}
 use Rattle.wb_kept_progress.proofs.CallLines.{among_call}
 use Rattle.std.proofs.lemmas.Option.{none-some, same_Some}
 use Rattle.std.proofs.Math.Nat.{le_refl}
 use Rattle.wb_laws_sessions.proofs.Sending.{one_of}
+use Rattle.wb_member.specs.Lines.{Line}
+use Rattle.wb_progress.proofs.Parts.{before_end, two_parts, order_of, in_past}
 
 -- what a call asks for that only changes constants
 tunes_only : (constants : Tuning) (n : NameValue) → Contains (Calls (Tune constants) ∷ []) (Calls (Ask n)) → ⊥
@@ -51,48 +53,48 @@ few_turns from now span drift turns is short few = omega (arith, is, short, few)
 
 -- ---- a window in which nothing new comes
 
-module _ (hosts : ℕ → Opening) (terms : Terms) (trace newest window base : List TimedLine) (sizes : Sizes) (wait most i : ℕ) (timely_so : PerformedIsTimely) (are : Holds hosts terms trace sizes wait most) (still : IsStill hosts terms trace newest window base)
+module _ (hosts : ℕ → Opening) (terms : Terms) (trace newest window base : List (At KeptLine)) (sizes : Sizes) (wait most i : ℕ) (timely_so : PerformedIsTimely) (are : Holds hosts terms trace sizes wait most) (still : IsStill hosts terms trace newest window base)
     (late_base : IsLate terms sizes wait base) (live : Contains terms.live i) where
-  known : known_from terms + wait + repairing terms ≤ called_at base
+  known : known_from terms + wait + repairing terms ≤ time_of base
   known = late_base.known
 
   abbrev starts : ℕ → Start
   starts j = start_of (hosts j)
 
-  abbrev all : List Performed
+  abbrev all : List (At Line)
   all = performed hosts trace
 
-  abbrev whole : List TimedLine
+  abbrev whole : List (At KeptLine)
   whole = window ++ base
 
-  abbrev lines : List Performed
+  abbrev lines : List (At Line)
   lines = performed hosts whole
 
   timely : IsTimely starts terms all
   timely = timely_so hosts terms trace are.session
 
-  newest_lines : (front : List Performed) × (all ≡ front ++ lines)
+  newest_lines : (front : List (At Line)) × (all ≡ front ++ lines)
   newest_lines = let f = front_of hosts newest whole in (f.0, ap (performed hosts) still.split ∙ f.1)
 
-  part_of_all : (front back : List Performed) → lines ≡ front ++ back → all ≡ (newest_lines.0 ++ front) ++ back
-  part_of_all front back split = newest_lines.1 ∙ ap (λ (l : List Performed). newest_lines.0 ++ l) split ∙ sym (append_assoc newest_lines.0 front back)
+  part_of_all : (front back : List (At Line)) → lines ≡ front ++ back → all ≡ (newest_lines.0 ++ front) ++ back
+  part_of_all front back split = newest_lines.1 ∙ ap (λ (l : List (At Line)). newest_lines.0 ++ l) split ∙ sym (append_assoc newest_lines.0 front back)
 
-  order_whole : AreCalledInOrder whole
-  order_whole = calls_order newest whole (subst AreCalledInOrder still.split are.session.order)
+  order_whole : AreInOrder whole
+  order_whole = order_of newest whole (subst AreInOrder still.split are.session.order)
 
   order_lines : AreInOrder lines
   order_lines = lines_order hosts whole order_whole
 
-  order_back : (front back : List Performed) → lines ≡ front ++ back → AreInOrder back
+  order_back : (front back : List (At Line)) → lines ≡ front ++ back → AreInOrder back
   order_back front back split = order_of front back (subst AreInOrder split order_lines)
 
-  settled : settled_by terms < called_at base
+  settled : settled_by terms < time_of base
   settled = omega (arith, known)
 
   -- ---- what is asked for is lacked
 
-  module _ (front back : List Performed) (split : lines ≡ front ++ back) (late : called_at base < time_of back) (n : NameValue) (ask : AskTimer) (stands : timer_then hosts back i n ≡ Some ask) where
-    within : (middle : List Performed) × (back ≡ middle ++ performed hosts base)
+  module _ (front back : List (At Line)) (split : lines ≡ front ++ back) (late : time_of base < time_of back) (n : NameValue) (ask : AskTimer) (stands : timer_then hosts back i n ≡ Some ask) where
+    within : (middle : List (At Line)) × (back ≡ middle ++ performed hosts base)
     within =
         let g = front_of hosts window base in
         in_past front back g.0 (performed hosts base) (sym split ∙ g.1) (subst AreInOrder split order_lines) (subst (λ (t : ℕ). t < time_of back) (sym (time_is hosts base)) late)
@@ -103,7 +105,7 @@ module _ (hosts : ℕ → Opening) (terms : Terms) (trace newest window base : L
       by false e = refl
       by true e =
           let later = held_later starts within.0 (performed hosts base) i n e in
-          let held : holds (host_then hosts back i) n ≡ true = ap (λ (l : List Performed). holds (host_then hosts l i) n) within.1 ∙ later in
+          let held : holds (host_then hosts back i) n ≡ true = ap (λ (l : List (At Line)). holds (host_then hosts l i) n) within.1 ∙ later in
           absurd (none-some ask (sym (none_held starts back i n held) ∙ stands))
 
     lacked_whole : holds (host_then hosts lines i) n ≡ false
@@ -112,9 +114,9 @@ module _ (hosts : ℕ → Opening) (terms : Terms) (trace newest window base : L
         ∙ ap (λ (held : List DrawopValue). history_holds held n) (still.same [] window i refl live) ∙ lacked_base
 
     -- so it does not come by a time while the window goes on
-    not_by : (time : ℕ) → AllHoldBehind starts terms all time n → called_at whole ≤ time
-    not_by time comes = by (nat_le (called_at whole) time) refl where
-      by : (b : Bool) → nat_le (called_at whole) time ≡ b → called_at whole ≤ time
+    not_by : (time : ℕ) → AllHoldBehind starts terms all time n → time_of whole ≤ time
+    not_by time comes = by (nat_le (time_of whole) time) refl where
+      by : (b : Bool) → nat_le (time_of whole) time ≡ b → time_of whole ≤ time
       by true e = leb-true _ _ e
       by false e =
           let lt = leb-false _ _ e in
@@ -124,35 +126,35 @@ module _ (hosts : ℕ → Opening) (terms : Terms) (trace newest window base : L
     is_lacked held = (
       live,
       held,
-      subst (λ (t : List TimedLine). holds (host_then hosts (until (settled_by terms) (performed hosts t)) i) n ≡ false) (sym split_base)
-          (lacked_until hosts (newest ++ window) base (settled_by terms) i n (subst AreCalledInOrder split_base are.session.order) settled lacked_base),
+      subst (λ (t : List (At KeptLine)). holds (host_then hosts (until (settled_by terms) (performed hosts t)) i) n ≡ false) (sym split_base)
+          (lacked_until hosts (newest ++ window) base (settled_by terms) i n (subst AreInOrder split_base are.session.order) settled lacked_base),
     ) where
       split_base : trace ≡ (newest ++ window) ++ base
       split_base = still.split ∙ sym (append_assoc newest window base)
 
   -- ---- the calls of the window
 
-  ordinary : (front part : List TimedLine) → window ≡ front ++ part → AreOrdinary terms part
+  ordinary : (front part : List (At KeptLine)) → window ≡ front ++ part → AreOrdinary terms part
   ordinary front [] split = tt
   ordinary front (e ∷ part) split = ((told_in terms (newest ++ front) (part ++ base) e (subst (TellTimes terms) at are.session.times) (are.session.alone (newest ++ front) (part ++ base) e at late), (λ now page time op. are.session.drawn (newest ++ front) (part ++ base) e now page time op at late)), ordinary (front ++ e ∷ []) part (split ∙ sym (append_assoc front (e ∷ []) part))) where
     here : whole ≡ front ++ e ∷ (part ++ base)
-    here = ap (λ (w : List TimedLine). w ++ base) split ∙ append_assoc front (e ∷ part) base
+    here = ap (λ (w : List (At KeptLine)). w ++ base) split ∙ append_assoc front (e ∷ part) base
 
     at : trace ≡ (newest ++ front) ++ e ∷ (part ++ base)
-    at = still.split ∙ ap (λ (w : List TimedLine). newest ++ w) here ∙ sym (append_assoc newest front (e ∷ (part ++ base)))
+    at = still.split ∙ ap (λ (w : List (At KeptLine)). newest ++ w) here ∙ sym (append_assoc newest front (e ∷ (part ++ base)))
 
     late : terms.quiet < e.time
     late =
-        let order = calls_order front (e ∷ (part ++ base)) (subst AreCalledInOrder here order_whole) in
+        let order = order_of front (e ∷ (part ++ base)) (subst AreInOrder here order_whole) in
         let first = order.0 in
-        let end = calls_end part base order.1 in
+        let end = before_end part base order.1 in
         let s = settled in
         omega (arith, first, end, s)
 
   -- ---- why something is given up
 
   -- a line of the window, so late that what is asked for behind it and was not backed off was asked for in the window
-  module _ (calls_of : LinesHaveCalls) (causes : AsksHaveCause) (front back : List Performed) (e : Performed) (split : lines ≡ front ++ e ∷ back) (late : called_at base + request_span terms < time_of back) where
+  module _ (calls_of : LinesHaveCalls) (causes : AsksHaveCause) (front back : List (At Line)) (e : At Line) (split : lines ≡ front ++ e ∷ back) (late : time_of base + request_span terms < time_of back) where
     abbrev from : ℕ
     from = e.time - request_span terms
 
@@ -163,7 +165,7 @@ module _ (hosts : ℕ → Opening) (terms : Terms) (trace newest window base : L
     after_quiet = let s = settled in let le = behind_back in omega (arith, s, late, le)
 
     span_is : from + request_span terms ≡ e.time
-    span_is = let le = behind_back in spans e.time (request_span terms) (called_at base) (time_of back) late le where
+    span_is = let le = behind_back in spans e.time (request_span terms) (time_of base) (time_of back) late le where
       spans : (now span base back : ℕ) → base + span < back → back ≤ now → now - span + span ≡ now
       spans now span base back lt le = omega (arith, lt, le)
 
@@ -189,22 +191,22 @@ module _ (hosts : ℕ → Opening) (terms : Terms) (trace newest window base : L
           let le = behind_back in
           omega (arith, soon, due, same, after, late, le)
 
-      in_time : called_at base < c.e.time
-      in_time = let asked = asked_late in let le = behind_back in past (called_at base) (request_span terms) (time_of back) e.time c.e.time late le asked where
+      in_time : time_of base < c.e.time
+      in_time = let asked = asked_late in let le = behind_back in past (time_of base) (request_span terms) (time_of back) e.time c.e.time late le asked where
         past : (base span back now then : ℕ) → base + span < back → back ≤ now → now ≤ then + span → base < then
         past base span back now then lt le soon = omega (arith, lt, le, soon)
 
       v : IsInWindow window base c.newer c.older c.e
       v = in_window window base c.newer c.older c.e c.split order_whole in_time
 
-      here : c.e.at.place ≡ i
+      here : c.e.place ≡ i
       here = sym c.place ∙ w.place
 
       asks : Contains (does hosts c.e c.older) (Calls (Ask m))
       asks = subst (Contains (does hosts c.e c.older)) w.line (among_call hosts whole w.x w.older c)
 
-      untuned : IsTuned c.e.at.line → ⊥
-      untuned t = tunes_only t.0 m (subst (λ (line : KeptLine). Contains (let k = there hosts c.older c.e.at.place in (doing_of line (sees k.host) k.policy).lines) (Calls (Ask m))) t.1 asks)
+      untuned : IsTuned c.e.event → ⊥
+      untuned t = tunes_only t.0 m (subst (λ (line : KeptLine). Contains (let k = there hosts c.older c.e.place in (doing_of line (sees k.host) k.policy).lines) (Calls (Ask m))) t.1 asks)
 
       by_then : c.e.time ≤ e.time
       by_then =
@@ -216,26 +218,26 @@ module _ (hosts : ℕ → Opening) (terms : Terms) (trace newest window base : L
       since : from ≤ c.e.time
       since = let asked = asked_late in omega (arith, asked)
 
-      turn_here : HasTurn (there hosts c.older c.e.at.place) (moment_of c.e.at.line) m → Contains turns.names m
+      turn_here : HasTurn (there hosts c.older c.e.place) (moment_of c.e.event) m → Contains turns.names m
       turn_here turn = turns.all c.newer v.part c.e m v.window_is here since by_then untuned
-          (subst (λ (l : List TimedLine). HasTurn (there hosts l i) (moment_of c.e.at.line) m) v.older_is (subst (λ (p : ℕ). HasTurn (there hosts c.older p) (moment_of c.e.at.line) m) here turn))
+          (subst (λ (l : List (At KeptLine)). HasTurn (there hosts l i) (moment_of c.e.event) m) v.older_is (subst (λ (p : ℕ). HasTurn (there hosts c.older p) (moment_of c.e.event) m) here turn))
 
-      nothing_new : (there hosts (c.e ∷ c.older) c.e.at.place).host.is.held ≡ (there hosts c.older c.e.at.place).host.is.held
+      nothing_new : (there hosts (c.e ∷ c.older) c.e.place).host.is.held ≡ (there hosts c.older c.e.place).host.is.held
       nothing_new =
           let one = still.same c.newer (c.e ∷ v.part) i v.window_is live in
           let two = still.same (c.newer ++ c.e ∷ []) v.part i (v.window_is ∙ sym (append_assoc c.newer (c.e ∷ []) v.part)) live in
           subst (λ (p : ℕ). (there hosts (c.e ∷ c.older) p).host.is.held ≡ (there hosts c.older p).host.is.held) (sym here)
-          (subst (λ (l : List TimedLine). (there hosts (c.e ∷ l) i).host.is.held ≡ (there hosts l i).host.is.held) (sym v.older_is) (one ∙ sym two))
+          (subst (λ (l : List (At KeptLine)). (there hosts (c.e ∷ l) i).host.is.held ≡ (there hosts l i).host.is.held) (sym v.older_is) (one ∙ sym two))
 
       in_trace : trace ≡ (newest ++ c.newer) ++ c.e ∷ c.older
-      in_trace = still.split ∙ ap (λ (l : List TimedLine). newest ++ l) c.split ∙ sym (append_assoc newest c.newer (c.e ∷ c.older))
+      in_trace = still.split ∙ ap (λ (l : List (At KeptLine)). newest ++ l) c.split ∙ sym (append_assoc newest c.newer (c.e ∷ c.older))
 
       had_cause : Contains turns.names m ⊎ IsHeldBySome hosts terms trace m
       had_cause = ⊎_elim
           (λ (held : IsHeldBySome hosts terms trace m). inr held)
-          (λ (rest : HasTurn (there hosts c.older c.e.at.place) (moment_of c.e.at.line) m ⊎ ((there hosts (c.e ∷ c.older) c.e.at.place).host.is.held ≢ (there hosts c.older c.e.at.place).host.is.held)). ⊎_elim
-          (λ (turn : HasTurn (there hosts c.older c.e.at.place) (moment_of c.e.at.line) m). inl (turn_here turn))
-          (λ (changed : (there hosts (c.e ∷ c.older) c.e.at.place).host.is.held ≢ (there hosts c.older c.e.at.place).host.is.held). absurd (changed nothing_new))
+          (λ (rest : HasTurn (there hosts c.older c.e.place) (moment_of c.e.event) m ⊎ ((there hosts (c.e ∷ c.older) c.e.place).host.is.held ≢ (there hosts c.older c.e.place).host.is.held)). ⊎_elim
+          (λ (turn : HasTurn (there hosts c.older c.e.place) (moment_of c.e.event) m). inl (turn_here turn))
+          (λ (changed : (there hosts (c.e ∷ c.older) c.e.place).host.is.held ≢ (there hosts c.older c.e.place).host.is.held). absurd (changed nothing_new))
           rest)
           (causes hosts terms trace (newest ++ c.newer) c.older c.e m are.session in_trace (let s = settled in let t = in_time in omega (arith, s, t)) asks)
 
@@ -244,7 +246,7 @@ module _ (hosts : ℕ → Opening) (terms : Terms) (trace newest window base : L
     cause m new =
         let t = new_timer (timer_then hosts back i m) new in
         let w = was_asked hosts terms trace timely (newest_lines.0 ++ (front ++ e ∷ [])) back i m t.0 (part_of_all (front ++ e ∷ []) back before_it) (let s = settled in omega (arith, s, late)) live t.1 t.2 in
-        had_cause m t.0 t.1 w (calls_of hosts whole ((front ++ e ∷ []) ++ w.newer) w.x w.older (before_it ∙ ap (λ (l : List Performed). (front ++ e ∷ []) ++ l) w.split ∙ sym (append_assoc (front ++ e ∷ []) w.newer (w.x ∷ w.older))))
+        had_cause m t.0 t.1 w (calls_of hosts whole ((front ++ e ∷ []) ++ w.newer) w.x w.older (before_it ∙ ap (λ (l : List (At Line)). (front ++ e ∷ []) ++ l) w.split ∙ sym (append_assoc (front ++ e ∷ []) w.newer (w.x ∷ w.older))))
 
     -- of 64 that are asked for, and of which none was backed off, another than the least is held by some
     another : (n : NameValue) (a : AskedName) → level (host_then hosts back i) n ≡ Some 0 → 64 ≤ length (view_of (host_then hosts back i)).asked → oldest (view_of (host_then hosts back i)).asked ≡ Some a → a.name ≡ n → IsForAnother hosts terms trace i back n
@@ -261,8 +263,8 @@ module _ (hosts : ℕ → Opening) (terms : Terms) (trace newest window base : L
 
   -- ---- what is given up before its timer was backed off
 
-  module _ (calls_of : LinesHaveCalls) (causes : AsksHaveCause) (stops : StopsHaveCause) (front back : List Performed) (e : Performed) (n : NameValue) (ask : AskTimer) (split : lines ≡ front ++ e ∷ back) (late : called_at base + request_span terms < time_of back)
-      (place : e.place ≡ i) (line : e.line ≡ Calls (Stop n)) (stands : timer_then hosts back i n ≡ Some ask) (new : ask.level ≡ 0) where
+  module _ (calls_of : LinesHaveCalls) (causes : AsksHaveCause) (stops : StopsHaveCause) (front back : List (At Line)) (e : At Line) (n : NameValue) (ask : AskTimer) (split : lines ≡ front ++ e ∷ back) (late : time_of base + request_span terms < time_of back)
+      (place : e.place ≡ i) (line : e.event ≡ Calls (Stop n)) (stands : timer_then hosts back i n ≡ Some ask) (new : ask.level ≡ 0) where
     abbrev Stopped : ℕ → Type 0
     Stopped p = ((a : AskTimer) × (timer_then hosts back p n ≡ Some a) × (4 ≤ a.level))
         ⊎ ((64 ≤ length (view_of (host_then hosts back p)).asked) × (a : AskedName) × (oldest (view_of (host_then hosts back p)).asked ≡ Some a) × (a.name ≡ n))
@@ -281,9 +283,9 @@ module _ (hosts : ℕ → Opening) (terms : Terms) (trace newest window base : L
   -- ---- where something is given up
 
   -- behind some lines it asks for something greater that another holds
-  record Next (back : List Performed) (n : NameValue) : Type 0 where
-    front : List Performed
-    later : List Performed
+  record Next (back : List (At Line)) (n : NameValue) : Type 0 where
+    front : List (At Line)
+    later : List (At Line)
     split : lines ≡ front ++ later
     since : time_of back ≤ time_of later
     soon : time_of later ≤ time_of back + request_span terms
@@ -293,18 +295,18 @@ module _ (hosts : ℕ → Opening) (terms : Terms) (trace newest window base : L
     stands : timer_then hosts later i name ≡ Some ask
     held : IsHeldBySome hosts terms trace name
 
-  module _ (keeps : GivesUpForAnother) (front back : List Performed) (split : lines ≡ front ++ back) (late : called_at base + request_span terms < time_of back) (n : NameValue) (ask : AskTimer) (due : ℕ) (g : IsGivenUp starts all back i n ask due) (new : ask.level ≡ 0)
+  module _ (keeps : GivesUpForAnother) (front back : List (At Line)) (split : lines ≡ front ++ back) (late : time_of base + request_span terms < time_of back) (n : NameValue) (ask : AskTimer) (due : ℕ) (g : IsGivenUp starts all back i n ask due) (new : ask.level ≡ 0)
       (soon : due ≤ time_of back + request_span terms) where
-    abbrev then_back : List Performed
+    abbrev then_back : List (At Line)
     then_back = g.between ++ back
 
     abbrev Goal : Type 0
-    Goal = (called_at whole ≤ time_of back + request_span terms) ⊎ Next back n
+    Goal = (time_of whole ≤ time_of back + request_span terms) ⊎ Next back n
 
     order_then : AreInOrder (g.e ∷ then_back)
     order_then = order_of g.front (g.e ∷ then_back) (subst AreInOrder g.split timely.order)
 
-    outside : (m : List Performed) → g.e ∷ then_back ≡ m ++ lines → Goal
+    outside : (m : List (At Line)) → g.e ∷ then_back ≡ m ++ lines → Goal
     outside m is =
         let end : time_of lines ≤ time_of (m ++ lines) = before_end m lines (subst AreInOrder is order_then) in
         let same = ap time_of is in
@@ -315,7 +317,7 @@ module _ (hosts : ℕ → Opening) (terms : Terms) (trace newest window base : L
     behind_part : time_of back ≤ time_of then_back
     behind_part = before_end g.between back order_then.1
 
-    next_of : (w : List Performed) (is : lines ≡ w ++ g.e ∷ then_back) → IsForAnother hosts terms trace i then_back n → Next back n
+    next_of : (w : List (At Line)) (is : lines ≡ w ++ g.e ∷ then_back) → IsForAnother hosts terms trace i then_back n → Next back n
     next_of w is other = record {
       front = w ++ g.e ∷ [];
       later = then_back;
@@ -329,34 +331,34 @@ module _ (hosts : ℕ → Opening) (terms : Terms) (trace newest window base : L
       held = other.held;
     }
 
-    inside : (w : List Performed) → lines ≡ w ++ g.e ∷ then_back → Goal
+    inside : (w : List (At Line)) → lines ≡ w ++ g.e ∷ then_back → Goal
     inside w is =
         let le = behind_part in
         inr (next_of w is (keeps hosts terms trace newest window base sizes wait most i w then_back g.e n ask are still late_base live is (omega (arith, le, late)) g.place g.line g.stands new))
 
     given_up : Goal
     given_up = ⊎_elim
-        (λ (m : (m : List Performed) × (g.e ∷ then_back ≡ m ++ lines)). outside m.0 m.1)
-        (λ (w : (w : List Performed) × (lines ≡ w ++ g.e ∷ then_back)). inside w.0 w.1)
+        (λ (m : (m : List (At Line)) × (g.e ∷ then_back ≡ m ++ lines)). outside m.0 m.1)
+        (λ (w : (w : List (At Line)) × (lines ≡ w ++ g.e ∷ then_back)). inside w.0 w.1)
         (two_parts newest_lines.0 lines g.front (g.e ∷ then_back) (sym newest_lines.1 ∙ g.split))
 
   -- ---- one name after the other
 
   -- names that it lacked before it asks for this one, and that are less
-  record IsFollowed (front back : List Performed) (n : NameValue) (ask : AskTimer) (lacks : List Lack) : Type 0 where
+  record IsFollowed (front back : List (At Line)) (n : NameValue) (ask : AskTimer) (lacks : List Lack) : Type 0 where
     split : lines ≡ front ++ back
-    late : called_at base + request_span terms < time_of back
+    late : time_of base + request_span terms < time_of back
     stands : timer_then hosts back i n ≡ Some ask
     held : IsHeldBySome hosts terms trace n
     apart : AreApart lacks
     each : (x : Lack) → Contains lacks x → IsLackedAt hosts terms trace (until (settled_by terms) all) x × (name_cmp x.name n ≡ Less)
 
   module _ (keeps : GivesUpForAnother) (young : TimersAreYoung) (leads : TimerLeadsOrIsGivenUp) where
-    module _ (front back : List Performed) (n : NameValue) (ask : AskTimer) (lacks : List Lack) (is : IsFollowed front back n ask lacks) where
+    module _ (front back : List (At Line)) (n : NameValue) (ask : AskTimer) (lacks : List Lack) (is : IsFollowed front back n ask lacks) where
       abbrev one : Lack
       one = record { place = i; name = n }
 
-      soon : called_at base < time_of back
+      soon : time_of base < time_of back
       soon = let l = is.late in omega (arith, l)
 
       one_more : AreApart (one ∷ lacks) × ((x : Lack) → Contains (one ∷ lacks) x → IsLackedAt hosts terms trace (until (settled_by terms) all) x)
@@ -372,7 +374,7 @@ module _ (hosts : ℕ → Opening) (terms : Terms) (trace newest window base : L
       enough = are.lacks (one ∷ lacks) one_more.0 one_more.1
 
       abbrev Ends : Type 0
-      Ends = (called_at whole ≤ time_of back + request_span terms + repairing terms) ⊎ Next back n
+      Ends = (time_of whole ≤ time_of back + request_span terms + repairing terms) ⊎ Next back n
 
       in_all : all ≡ (newest_lines.0 ++ front) ++ back
       in_all = part_of_all front back is.split
@@ -390,7 +392,7 @@ module _ (hosts : ℕ → Opening) (terms : Terms) (trace newest window base : L
           let le = not_by front back is.split soon n ask is.stands (max (time_of back) (time_of back + terms.asking * terms.far) + repairing terms) comes in
           inl (omega (arith, le)))
           (λ (g : IsGivenUp starts all back i n ask (max (time_of back) (time_of back + terms.asking * terms.far) + terms.late)). ⊎_elim
-          (λ (le : called_at whole ≤ time_of back + request_span terms). inl (omega (arith, le)))
+          (λ (le : time_of whole ≤ time_of back + request_span terms). inl (omega (arith, le)))
           (λ (next : Next back n). inr next)
           (given_up keeps front back is.split is.late n ask (max (time_of back) (time_of back + terms.asking * terms.far) + terms.late) g new (omega arith)))
           (leads starts terms all (newest_lines.0 ++ front) back i n ask (time_of back + terms.asking * terms.far) timely in_all live (omega (arith, k, s)) is.stands (let after = settled in omega (arith, due, by, after, s)) is.held)
@@ -408,7 +410,7 @@ module _ (hosts : ℕ → Opening) (terms : Terms) (trace newest window base : L
 
       -- where no new timer is given up
       module _ (kept : NewAreKept hosts terms trace sizes.since) where
-        kept_end : called_at whole ≤ time_of back + request_span terms + repairing terms
+        kept_end : time_of whole ≤ time_of back + request_span terms + repairing terms
         kept_end =
             let k = known in
             let s = soon in
@@ -432,13 +434,13 @@ module _ (hosts : ℕ → Opening) (terms : Terms) (trace newest window base : L
         );
       }
 
-    follow : (fuel : ℕ) (front back : List Performed) (n : NameValue) (ask : AskTimer) (lacks : List Lack) → IsFollowed front back n ask lacks → most ≤ length lacks + fuel → called_at whole ≤ time_of back + fuel * request_span terms + repairing terms
+    follow : (fuel : ℕ) (front back : List (At Line)) (n : NameValue) (ask : AskTimer) (lacks : List Lack) → IsFollowed front back n ask lacks → most ≤ length lacks + fuel → time_of whole ≤ time_of back + fuel * request_span terms + repairing terms
     follow zero front back n ask lacks is left = let le = enough front back n ask lacks is in absurd (omega (arith, le, left))
     follow (suc fuel) front back n ask lacks is left = ⊎_elim
-        (λ (le : called_at whole ≤ time_of back + request_span terms + repairing terms). last (called_at whole) (time_of back) (request_span terms) (repairing terms) fuel le)
+        (λ (le : time_of whole ≤ time_of back + request_span terms + repairing terms). last (time_of whole) (time_of back) (request_span terms) (repairing terms) fuel le)
         (λ (next : Next back n).
         let rest = follow fuel next.front next.later next.name next.ask (record { place = i; name = n } ∷ lacks) (followed front back n ask lacks is next) (omega (arith, left)) in
-        more (called_at whole) (time_of back) (time_of next.later) (request_span terms) (repairing terms) fuel next.soon rest)
+        more (time_of whole) (time_of back) (time_of next.later) (request_span terms) (repairing terms) fuel next.soon rest)
         (ends front back n ask lacks is) where
           last : (end back span repair fuel : ℕ) → end ≤ back + span + repair → end ≤ back + suc fuel * span + repair
           last end back span repair fuel le = let product : suc fuel * span ≡ fuel * span + span = omega arith in omega (arith, le, product)
@@ -457,10 +459,10 @@ stillness_ends young leads timely_so keeps hosts terms trace newest window base 
     ⊎_elim
     (λ (enough : most ≤ sizes.gives).
     let le = follow hosts terms trace newest window base sizes wait most i timely_so are still late_base live keeps young leads most asking.front back asking.name asking.ask [] is (none_yet most) in
-    at_most (called_at (window ++ base)) (time_of back) (request_span terms) (repairing terms) most sizes.gives le enough)
+    at_most (time_of (window ++ base)) (time_of back) (request_span terms) (repairing terms) most sizes.gives le enough)
     (λ (kept : (1 ≤ sizes.gives) × NewAreKept hosts terms trace sizes.since).
     let le = kept_end hosts terms trace newest window base sizes wait most i timely_so are still late_base live keeps young leads asking.front back asking.name asking.ask [] is kept.1 in
-    at_most (called_at (window ++ base)) (time_of back) (request_span terms) (repairing terms) 1 sizes.gives (omega (arith, le)) kept.0)
+    at_most (time_of (window ++ base)) (time_of back) (request_span terms) (repairing terms) 1 sizes.gives (omega (arith, le)) kept.0)
     are.soon.gives where
       at_most : (end back span repair few many : ℕ) → end ≤ back + few * span + repair → few ≤ many → end ≤ back + many * span + repair
       at_most end back span repair few many le more = let product = mul-le-mul more (le_refl span) in omega (arith, le, product)

@@ -11,7 +11,7 @@ use Rattle.wb_member.specs.Judged.{is_full}
 use Rattle.wb_member.specs.Opened.{Opened, events}
 use Rattle.wb_member.specs.declared.calls.Call.TheVariants.{Tick, Ask, Stop}
 use Rattle.wb_keeping.specs.Kept.{Doing, Line, covers, room_lines, still, stops_one, want, lending, Calls}
-use Rattle.wb_keeping.specs.Laws.{fault_of}
+use Rattle.wb_keeping.specs.Laws.{KeptLine, fault_of}
 use Rattle.wb_keeping.specs.Performing.{Keeping, after_line, after_lines, sees, view_of}
 use Rattle.wb_policy.specs.Policy.{Policy, after_wanting}
 use Rattle.wb_keeping.specs.Views.{View, holds, level, is_full as shows_full, is_known}
@@ -22,7 +22,7 @@ use Rattle.wb_keeping.proofs.EachStep.{HoldsOfSteps, doing, line_holds}
 use Rattle.wb_keeping.proofs.Performed.{after_both}
 use Rattle.wb_keeping.proofs.Wanted.{lines_wanted, parts_wanted}
 use Rattle.wb_kept_progress.specs.Sessions.{AreTaken, Opening}
-use Rattle.wb_kept_progress.specs.Timed.{TimedLine, lines_of}
+use Rattle.wb_kept_progress.specs.Timed.{At}
 use Rattle.wb_kept_progress.specs.Whole.{there}
 use Rattle.wb_kept_progress.proofs.Asking.{level_told, oldest_is_one}
 use Rattle.wb_kept_progress.proofs.CallLines.{host_before}
@@ -196,21 +196,21 @@ steps_give_up = record {
 -- ---- a session
 
 -- no call is refused
-pub call_taken : (hosts : ℕ → Opening) (newer older : List TimedLine) (e : TimedLine) → AreTaken hosts (lines_of (newer ++ e ∷ older))
-    → fault_of e.at.line (there hosts older e.at.place) ≡ None
+pub call_taken : (hosts : ℕ → Opening) (newer older : List (At KeptLine)) (e : At KeptLine) → AreTaken hosts (newer ++ e ∷ older)
+    → fault_of e.event (there hosts older e.place) ≡ None
 call_taken hosts [] older e taken = taken.0
 call_taken hosts (x ∷ newer) older e taken = call_taken hosts newer older e taken.1
 
 pub stops_have_cause : LinesHaveCalls → StopsHaveCause
 stops_have_cause calls hosts terms trace front x back n session live late split is =
     let c = calls hosts trace front x back split in
-    let place = c.e.at.place in
+    let place = c.e.place in
     let k = there hosts c.older place in
     let lines = does hosts c.e c.older in
-    let none : fault_of c.e.at.line k ≡ None = call_taken hosts c.newer c.older c.e (subst (λ (t : List TimedLine). AreTaken hosts (lines_of t)) c.split session.taken) in
+    let none : fault_of c.e.event k ≡ None = call_taken hosts c.newer c.older c.e (subst (λ (t : List (At KeptLine)). AreTaken hosts t) c.split session.taken) in
     let behind : is_full (there hosts (c.e ∷ c.older) place).host ≡ false = session.room c.newer (c.e ∷ c.older) place c.split (subst (Contains terms.live) c.place live) (subst (λ (t : ℕ). terms.quiet < t) c.time late) in
-    let room : is_full (after_lines lines k.host) ≡ false = subst (λ (m : Keeping). is_full m.host ≡ false) (moved hosts (lines_of c.older) place c.e.at.line) behind in
-    let caused : AreCaused lines k.host = (line_holds GivesUpFor steps_give_up c.e.at.line k none).caused room in
-    let at : IsCaused x.line (after_lines c.before k.host) = caused_at c.before c.later x.line k.host (subst (λ (ls : List Line). AreCaused ls k.host) c.lines caused) in
+    let room : is_full (after_lines lines k.host) ≡ false = subst (λ (m : Keeping). is_full m.host ≡ false) (moved hosts c.older place c.e.event) behind in
+    let caused : AreCaused lines k.host = (line_holds GivesUpFor steps_give_up c.e.event k none).caused room in
+    let at : IsCaused x.event (after_lines c.before k.host) = caused_at c.before c.later x.event k.host (subst (λ (ls : List Line). AreCaused ls k.host) c.lines caused) in
     let same : host_then hosts back x.place ≡ after_lines c.before k.host = host_before hosts trace x back c in
     subst (λ (h : Opened). HasStopCause h n) (sym same) (subst (λ (line : Line). IsCaused line (after_lines c.before k.host)) is at)

@@ -20,7 +20,7 @@ use Rattle.wb_keeping.proofs.EachLine.{timed_each}
 use Rattle.wb_keeping.proofs.Performed.{then_after, then_sent}
 use Rattle.wb_kept_progress.specs.Sessions.{Opening}
 use Rattle.wb_kept_progress.specs.Telling.{EndsAtMark}
-use Rattle.wb_kept_progress.specs.Timed.{TimedLine, called_at}
+use Rattle.wb_kept_progress.specs.Timed.{At, time_of}
 use Rattle.wb_kept_progress.specs.Whole.{IsTimelySession, there}
 use Rattle.wb_kept_progress.proofs.Beats.{ByReport}
 use Rattle.wb_kept_progress.proofs.InTurn.{due_sends, due_tells, silent_due, silent_told}
@@ -129,93 +129,93 @@ each_call (Tuned constants) k = inl (record { due = refl; told = refl })
 -- ---- calls one after the other
 
 -- what a host holds stays
-call_grows : (hosts : ℕ → Opening) (e : TimedLine) (older : List TimedLine) (i : ℕ) → GrowsTo (there hosts older i).host.is.held (there hosts (e ∷ older) i).host.is.held
-call_grows hosts e older i d c = by (nat_eq e.at.place i) where
+call_grows : (hosts : ℕ → Opening) (e : At KeptLine) (older : List (At KeptLine)) (i : ℕ) → GrowsTo (there hosts older i).host.is.held (there hosts (e ∷ older) i).host.is.held
+call_grows hosts e older i d c = by (nat_eq e.place i) where
   k : Keeping
   k = there hosts older i
 
-  by : (b : Bool) → Contains (cond b (after_doing (doing_of e.at.line) k) k).host.is.held d
-  by true = (lines_grow (doing_of e.at.line (sees k.host) k.policy).lines k.host).kept d c
+  by : (b : Bool) → Contains (cond b (after_doing (doing_of e.event) k) k).host.is.held d
+  by true = (lines_grow (doing_of e.event (sees k.host) k.policy).lines k.host).kept d c
   by false = c
 
-pub calls_grow : (hosts : ℕ → Opening) (front part : List TimedLine) (i : ℕ) → GrowsTo (there hosts part i).host.is.held (there hosts (front ++ part) i).host.is.held
+pub calls_grow : (hosts : ℕ → Opening) (front part : List (At KeptLine)) (i : ℕ) → GrowsTo (there hosts part i).host.is.held (there hosts (front ++ part) i).host.is.held
 calls_grow hosts [] part i d c = c
 calls_grow hosts (e ∷ front) part i d c = call_grows hosts e (front ++ part) i d (calls_grow hosts front part i d c)
 
 -- a telling that goes on ends at a source that its page has
-pub ends_there_at : (hosts : ℕ → Opening) (calls : List TimedLine) (i : ℕ) → EndsAtMark (there hosts calls i).host.is.held (told_of (there hosts calls i).policy)
+pub ends_there_at : (hosts : ℕ → Opening) (calls : List (At KeptLine)) (i : ℕ) → EndsAtMark (there hosts calls i).host.is.held (told_of (there hosts calls i).policy)
 ends_there_at hosts [] i = λ is. absurd (true≢false (sym is))
-ends_there_at hosts (e ∷ older) i = by (nat_eq e.at.place i) (ends_there_at hosts older i) where
+ends_there_at hosts (e ∷ older) i = by (nat_eq e.place i) (ends_there_at hosts older i) where
   k : Keeping
   k = there hosts older i
 
   n : Keeping
-  n = after_doing (doing_of e.at.line) k
+  n = after_doing (doing_of e.event) k
 
   grows : GrowsTo k.host.is.held n.host.is.held
-  grows d c = (lines_grow (doing_of e.at.line (sees k.host) k.policy).lines k.host).kept d c
+  grows d c = (lines_grow (doing_of e.event (sees k.host) k.policy).lines k.host).kept d c
 
   by : (b : Bool) → EndsAtMark k.host.is.held (told_of k.policy) → (let x : Keeping = cond b n k in EndsAtMark x.host.is.held (told_of x.policy))
   by false ends = ends
   by true ends =
       let more = ends_later k.host.is.held n.host.is.held (told_of k.policy) grows ends in
       ⊎_elim
-      (λ (q : IsQuiet (doing_of e.at.line) k). subst (EndsAtMark n.host.is.held) (sym q.told) more)
-      (λ (r : Reports (doing_of e.at.line) k). subst (EndsAtMark n.host.is.held) (sym r.told) (ends_still n.host.is.held (told_of k.policy) more))
-      (each_call e.at.line k)
+      (λ (q : IsQuiet (doing_of e.event) k). subst (EndsAtMark n.host.is.held) (sym q.told) more)
+      (λ (r : Reports (doing_of e.event) k). subst (EndsAtMark n.host.is.held) (sym r.told) (ends_still n.host.is.held (told_of k.policy) more))
+      (each_call e.event k)
 
 -- ---- the next report of a host
 
 module _ (hosts : ℕ → Opening) (j : ℕ) where
   -- by one of some calls it comes
-  pub record FirstReport (front part : List TimedLine) : Type 0 where
-    pub later : List TimedLine
-    pub e : TimedLine
-    pub between : List TimedLine
+  pub record FirstReport (front part : List (At KeptLine)) : Type 0 where
+    pub later : List (At KeptLine)
+    pub e : At KeptLine
+    pub between : List (At KeptLine)
     pub split : front ≡ later ++ e ∷ between
-    pub place : nat_eq e.at.place j ≡ true
+    pub place : nat_eq e.place j ≡ true
     pub due : (there hosts (between ++ part) j).policy.reports.due ≡ (there hosts part j).policy.reports.due
     pub told : told_of (there hosts (between ++ part) j).policy ≡ told_of (there hosts part j).policy
-    pub reports : Reports (doing_of e.at.line) (there hosts (between ++ part) j)
+    pub reports : Reports (doing_of e.event) (there hosts (between ++ part) j)
 
-  record NoReport (front part : List TimedLine) : Type 0 where
+  record NoReport (front part : List (At KeptLine)) : Type 0 where
     due : (there hosts (front ++ part) j).policy.reports.due ≡ (there hosts part j).policy.reports.due
     told : told_of (there hosts (front ++ part) j).policy ≡ told_of (there hosts part j).policy
 
-  first_report : (front part : List TimedLine) → FirstReport front part ⊎ NoReport front part
+  first_report : (front part : List (At KeptLine)) → FirstReport front part ⊎ NoReport front part
   first_report [] part = inr (record { due = refl; told = refl })
   first_report (e ∷ front) part = ⊎_elim
-      (λ (r : FirstReport front part). inl (record { later = e ∷ r.later; e = r.e; between = r.between; split = ap (λ (t : List TimedLine). e ∷ t) r.split; place = r.place; due = r.due; told = r.told; reports = r.reports }))
-      (λ (same : NoReport front part). by same (nat_eq e.at.place j) refl)
+      (λ (r : FirstReport front part). inl (record { later = e ∷ r.later; e = r.e; between = r.between; split = ap (λ (t : List (At KeptLine)). e ∷ t) r.split; place = r.place; due = r.due; told = r.told; reports = r.reports }))
+      (λ (same : NoReport front part). by same (nat_eq e.place j) refl)
       (first_report front part) where
         k : Keeping
         k = there hosts (front ++ part) j
 
-        by : NoReport front part → (b : Bool) → nat_eq e.at.place j ≡ b → FirstReport (e ∷ front) part ⊎ NoReport (e ∷ front) part
+        by : NoReport front part → (b : Bool) → nat_eq e.place j ≡ b → FirstReport (e ∷ front) part ⊎ NoReport (e ∷ front) part
         by same false other =
             let is = there_other hosts e (front ++ part) j other in
             inr (record { due = ap (λ (x : Keeping). x.policy.reports.due) is ∙ same.due; told = ap (λ (x : Keeping). told_of x.policy) is ∙ same.told })
         by same true here =
             let is = there_here hosts e (front ++ part) j here in
             ⊎_elim
-            (λ (q : IsQuiet (doing_of e.at.line) k). inr (record { due = ap (λ (x : Keeping). x.policy.reports.due) is ∙ q.due ∙ same.due; told = ap (λ (x : Keeping). told_of x.policy) is ∙ q.told ∙ same.told }))
-            (λ (r : Reports (doing_of e.at.line) k). inl (record { later = []; e = e; between = front; split = refl; place = here; due = same.due; told = same.told; reports = r }))
-            (each_call e.at.line k)
+            (λ (q : IsQuiet (doing_of e.event) k). inr (record { due = ap (λ (x : Keeping). x.policy.reports.due) is ∙ q.due ∙ same.due; told = ap (λ (x : Keeping). told_of x.policy) is ∙ q.told ∙ same.told }))
+            (λ (r : Reports (doing_of e.event) k). inl (record { later = []; e = e; between = front; split = refl; place = here; due = same.due; told = same.told; reports = r }))
+            (each_call e.event k)
 
   -- it comes in time
-  module _ (terms : Terms) (trace : List TimedLine) (s : IsTimelySession hosts terms trace) (live : Contains terms.live j) where
-    pub next_report : (newest front part : List TimedLine) (x pause : ℕ) → trace ≡ newest ++ (front ++ part) → terms.quiet < called_at part → called_at part ≤ x
-        → (there hosts part j).policy.reports.due + terms.lag j ≤ x + pause → x + (pause + terms.late) < called_at (front ++ part) → (r : FirstReport front part) × (r.e.time ≤ x + (pause + terms.late))
+  module _ (terms : Terms) (trace : List (At KeptLine)) (s : IsTimelySession hosts terms trace) (live : Contains terms.live j) where
+    pub next_report : (newest front part : List (At KeptLine)) (x pause : ℕ) → trace ≡ newest ++ (front ++ part) → terms.quiet < time_of part → time_of part ≤ x
+        → (there hosts part j).policy.reports.due + terms.lag j ≤ x + pause → x + (pause + terms.late) < time_of (front ++ part) → (r : FirstReport front part) × (r.e.time ≤ x + (pause + terms.late))
     next_report newest [] part x pause split late from due_by lt = absurd (omega (arith, from, lt))
     next_report newest (e ∷ front) part x pause split late from due_by lt = ⊎_elim
         (λ (r : FirstReport front part).
         let d = r.due in
         let split_r : trace ≡ (newest ++ e ∷ r.later) ++ r.e ∷ (r.between ++ part) =
-        split ∙ ap (λ (t : List TimedLine). newest ++ e ∷ (t ++ part)) r.split
-        ∙ ap (λ (t : List TimedLine). newest ++ e ∷ t) (append_assoc r.later (r.e ∷ r.between) part)
+        split ∙ ap (λ (t : List (At KeptLine)). newest ++ e ∷ (t ++ part)) r.split
+        ∙ ap (λ (t : List (At KeptLine)). newest ++ e ∷ t) (append_assoc r.later (r.e ∷ r.between) part)
         ∙ sym (append_assoc newest (e ∷ r.later) (r.e ∷ (r.between ++ part))) in
         let soon = soon_there hosts terms trace s ByReport (newest ++ e ∷ r.later) (r.between ++ part) r.e j (x + pause) split_r live (quiet_behind hosts terms trace s (newest ++ e ∷ r.later) (r.e ∷ r.between) part split_r late) (omega (arith, d, due_by)) in (
-          record { later = e ∷ r.later; e = r.e; between = r.between; split = ap (λ (t : List TimedLine). e ∷ t) r.split; place = r.place; due = r.due; told = r.told; reports = r.reports },
+          record { later = e ∷ r.later; e = r.e; between = r.between; split = ap (λ (t : List (At KeptLine)). e ∷ t) r.split; place = r.place; due = r.due; told = r.told; reports = r.reports },
           omega (arith, soon),
         ))
         (λ (same : NoReport front part).

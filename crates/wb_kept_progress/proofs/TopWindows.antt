@@ -11,7 +11,7 @@ use Rattle.wb_recovery.specs.declared.timers.AskTimer.{AskTimer}
 use Rattle.wb_progress.specs.InTime.{known_from, repairing}
 use Rattle.wb_progress.specs.Turns.{IsNowAt, Terms, settled_by}
 use Rattle.wb_progress.proofs.Giving.{held_as}
-use Rattle.wb_progress.proofs.Parts.{heads, nil_ends, tails}
+use Rattle.wb_progress.proofs.Parts.{before_end, heads, in_past, nil_ends, order_of, tails}
 use Rattle.wb_member.specs.Judged.{holds}
 use Rattle.wb_member.specs.Opened.{asks_for, present}
 use Rattle.wb_keeping.specs.Bounds.{ask_count}
@@ -22,14 +22,13 @@ use Rattle.wb_kept_progress.specs.Promises.{timer_then}
 use Rattle.wb_kept_progress.specs.Rounds.{coming}
 use Rattle.wb_kept_progress.specs.Sessions.{AreTaken, Opening}
 use Rattle.wb_kept_progress.specs.Telling.{HaveSlices, IsTold, LastNumbersAreTold}
-use Rattle.wb_kept_progress.specs.Timed.{AllHoldBehind, AreInOrder, IsGivenUp, IsTimely, Performed, SaysNow, Start, TimedLine, called_at, lines_of, performed, start_of, time_of}
+use Rattle.wb_kept_progress.specs.Timed.{AllHoldBehind, AreInOrder, At, IsGivenUp, IsTimely, SaysNow, Start, performed, start_of, time_of}
 use Rattle.wb_kept_progress.specs.Topped.{asks_since, window_span, windows_from}
-use Rattle.wb_kept_progress.specs.Whole.{AreCalledInOrder, HolesAreHeld, IsHandedIn, IsHeldBySome, IsTimelySession, ReportWithin, WaitAtMost, request_span, there, turn_span}
+use Rattle.wb_kept_progress.specs.Whole.{HolesAreHeld, IsHandedIn, IsHeldBySome, IsTimelySession, ReportWithin, WaitAtMost, request_span, there, turn_span}
 use Rattle.wb_kept_progress.proofs.AskedComes.{comes_or_is_given_up}
 use Rattle.wb_kept_progress.proofs.AskedInCalls.{HasAsk}
 use Rattle.wb_kept_progress.proofs.AskedStays.{stood_or_calls}
 use Rattle.wb_kept_progress.proofs.Becoming.{lacked_before}
-use Rattle.wb_kept_progress.proofs.CallParts.{calls_end}
 use Rattle.wb_kept_progress.proofs.CallsInTime.{performed_is_timely}
 use Rattle.wb_kept_progress.proofs.Coming.{named_in}
 use Rattle.wb_kept_progress.proofs.CrowdAsks.{before_newest, crowd_asks}
@@ -46,30 +45,30 @@ use Rattle.wb_kept_progress.proofs.SameReports.{still_held}
 use Rattle.wb_kept_progress.proofs.StillCalls.{came_now}
 use Rattle.wb_kept_progress.proofs.StillEnds.{not_still}
 use Rattle.wb_kept_progress.proofs.StillOne.{IsAwake, an_ask, awake_by, begins_here, one_on}
-use Rattle.wb_kept_progress.proofs.Timely.{before_end, order_of}
 use Rattle.wb_kept_progress.proofs.Told.{told_wants}
 use Rattle.wb_kept_progress.proofs.Turning.{answers_at}
 use Rattle.wb_kept_progress.proofs.WantedIn.{IsAskedInCall, LacksCredit}
 use Rattle.wb_kept_progress.proofs.WantingCalls.{timer_in_call}
 use Rattle.wb_kept_progress.proofs.WholeParts.{does}
-use Rattle.wb_kept_progress.proofs.WindowParts.{IsInWindow, calls_past, in_window}
+use Rattle.wb_kept_progress.proofs.WindowParts.{IsInWindow, in_window}
+use Rattle.wb_member.specs.Lines.{Line}
 
 -- ---- a window
 
 -- each of its calls comes after a time if the first does
-all_after : (calls : List TimedLine) (next : TimedLine) (base : List TimedLine) (time : ℕ) → AreCalledInOrder (calls ++ next ∷ base) → time < next.time → (front rest : List TimedLine) (y : TimedLine) → calls ++ next ∷ [] ≡ front ++ y ∷ rest → time < y.time
-all_after [] next base time order late [] rest y is = subst (λ (x : TimedLine). time < x.time) (heads next y [] rest is) late
+all_after : (calls : List (At KeptLine)) (next : At KeptLine) (base : List (At KeptLine)) (time : ℕ) → AreInOrder (calls ++ next ∷ base) → time < next.time → (front rest : List (At KeptLine)) (y : At KeptLine) → calls ++ next ∷ [] ≡ front ++ y ∷ rest → time < y.time
+all_after [] next base time order late [] rest y is = subst (λ (x : At KeptLine). time < x.time) (heads next y [] rest is) late
 all_after [] next base time order late (x ∷ front) rest y is = absurd (nil_ends front y rest (tails next x [] (front ++ y ∷ rest) is))
 all_after (x ∷ calls) next base time order late [] rest y is =
-    let end = calls_end calls (next ∷ base) order.1 in
+    let end = before_end calls (next ∷ base) order.1 in
     let first = order.0 in
-    subst (λ (c : TimedLine). time < c.time) (heads x y (calls ++ next ∷ []) rest is) (omega (arith, end, first, late))
+    subst (λ (c : At KeptLine). time < c.time) (heads x y (calls ++ next ∷ []) rest is) (omega (arith, end, first, late))
 all_after (x ∷ calls) next base time order late (c ∷ front) rest y is = all_after calls next base time order.1 late front rest y (tails x c (calls ++ next ∷ []) (front ++ y ∷ rest) is)
 
 -- ---- a live host, and the last number of a source
 
 -- Windows begin at `from`, and are `span` long.
-module _ (told : LastNumbersAreTold) (hosts : ℕ → Opening) (terms : Terms) (trace : List TimedLine) (since wait slices pause from span i : ℕ) (n : NameValue) (late_from : windows_from terms since wait ≤ from) (long : window_span terms slices pause ≤ span) (session : IsTimelySession hosts terms trace) (waits : WaitAtMost hosts terms trace wait)
+module _ (told : LastNumbersAreTold) (hosts : ℕ → Opening) (terms : Terms) (trace : List (At KeptLine)) (since wait slices pause from span i : ℕ) (n : NameValue) (late_from : windows_from terms since wait ≤ from) (long : window_span terms slices pause ≤ span) (session : IsTimelySession hosts terms trace) (waits : WaitAtMost hosts terms trace wait)
     (reports : ReportWithin hosts terms trace since pause) (have : HaveSlices hosts terms trace slices) (live : Contains terms.live i) (held : IsHeldBySome hosts terms trace n)
     (last : (x : NameValue) → IsHeldBySome hosts terms trace x → x.page ≡ n.page → x.source ≡ n.source → x.seq ≤ n.seq) (counted : 1 ≤ n.seq) (small : n.seq < 2147483648) where
   abbrev starts : ℕ → Start
@@ -91,7 +90,7 @@ module _ (told : LastNumbersAreTold) (hosts : ℕ → Opening) (terms : Terms) (
   abbrev j : ℕ
   j = held.0
 
-  module _ (k : ℕ) (newer part : List TimedLine) (e : TimedLine) (split : trace ≡ newer ++ e ∷ part) (ends : called_at part ≤ at_window (suc k)) (goes_on : at_window (suc k) < e.time)
+  module _ (k : ℕ) (newer part : List (At KeptLine)) (e : At KeptLine) (split : trace ≡ newer ++ e ∷ part) (ends : time_of part ≤ at_window (suc k)) (goes_on : at_window (suc k) < e.time)
       (lacks : holds (there hosts (e ∷ part) i).host n ≡ false) where
     -- from then on the credit is that of the window, and a crowd is one of it
     abbrev credited : ℕ
@@ -113,14 +112,14 @@ module _ (told : LastNumbersAreTold) (hosts : ℕ → Opening) (terms : Terms) (
     pub p : IsThen (q.next ∷ q.part) (at_window k)
     p = then_at (q.next ∷ q.part) (at_window k) (let after = q.after in omega (arith, after))
 
-    abbrev base : List TimedLine
+    abbrev base : List (At KeptLine)
     base = q.next ∷ q.part
 
     split_q : trace ≡ (newer ++ q.front) ++ base
-    split_q = split ∙ ap (λ (l : List TimedLine). newer ++ l) q.split ∙ sym (append_assoc newer q.front base)
+    split_q = split ∙ ap (λ (l : List (At KeptLine)). newer ++ l) q.split ∙ sym (append_assoc newer q.front base)
 
     pub split_p : trace ≡ ((newer ++ q.front) ++ p.front) ++ p.next ∷ p.part
-    split_p = split_q ∙ ap (λ (l : List TimedLine). (newer ++ q.front) ++ l) p.split ∙ sym (append_assoc (newer ++ q.front) p.front (p.next ∷ p.part))
+    split_p = split_q ∙ ap (λ (l : List (At KeptLine)). (newer ++ q.front) ++ l) p.split ∙ sym (append_assoc (newer ++ q.front) p.front (p.next ∷ p.part))
 
     upto_p : trace ≡ (((newer ++ q.front) ++ p.front) ++ p.next ∷ []) ++ p.part
     upto_p = split_p ∙ sym (append_assoc ((newer ++ q.front) ++ p.front) (p.next ∷ []) p.part)
@@ -144,15 +143,15 @@ module _ (told : LastNumbersAreTold) (hosts : ℕ → Opening) (terms : Terms) (
         omega (arith, soon, by, first)
 
     -- the calls of the window
-    pub more : (w : List TimedLine) × (part ≡ w ++ p.next ∷ p.part)
+    pub more : (w : List (At KeptLine)) × (part ≡ w ++ p.next ∷ p.part)
     more = before_newest (q.front ++ p.front) e p.next part p.part
-        (q.split ∙ ap (λ (l : List TimedLine). q.front ++ l) p.split ∙ sym (append_assoc q.front p.front (p.next ∷ p.part)))
+        (q.split ∙ ap (λ (l : List (At KeptLine)). q.front ++ l) p.split ∙ sym (append_assoc q.front p.front (p.next ∷ p.part)))
         (let end = first_time in let b = begins in let l = later_then in omega (arith, end, b, l)) where
           first_time : p.next.time ≤ q.next.time
-          first_time = subst (λ (l : List TimedLine). p.next.time ≤ called_at l) (sym p.split)
-              (calls_end p.front (p.next ∷ p.part) (subst AreCalledInOrder p.split (ordered hosts terms trace session (newer ++ q.front) base split_q)))
+          first_time = subst (λ (l : List (At KeptLine)). p.next.time ≤ time_of l) (sym p.split)
+              (before_end p.front (p.next ∷ p.part) (subst AreInOrder p.split (ordered hosts terms trace session (newer ++ q.front) base split_q)))
 
-    abbrev pub window : List TimedLine
+    abbrev pub window : List (At KeptLine)
     window = more.0 ++ p.next ∷ []
 
     pub whole : part ≡ window ++ p.part
@@ -163,11 +162,11 @@ module _ (told : LastNumbersAreTold) (hosts : ℕ → Opening) (terms : Terms) (
     Many = 64 ≤ ask_count (performs_in hosts i window p.part)
 
     pub lacks_before : holds (there hosts (p.next ∷ p.part) i).host n ≡ false
-    lacks_before = lacked_before hosts p.front (p.next ∷ p.part) i n (subst (λ (l : List TimedLine). holds (there hosts l i).host n ≡ false) p.split
-        (lacked_before hosts q.front base i n (subst (λ (l : List TimedLine). holds (there hosts l i).host n ≡ false) q.split lacks)))
+    lacks_before = lacked_before hosts p.front (p.next ∷ p.part) i n (subst (λ (l : List (At KeptLine)). holds (there hosts l i).host n ≡ false) p.split
+        (lacked_before hosts q.front base i n (subst (λ (l : List (At KeptLine)). holds (there hosts l i).host n ≡ false) q.split lacks)))
 
     lacks_base : holds (there hosts base i).host n ≡ false
-    lacks_base = lacked_before hosts q.front base i n (subst (λ (l : List TimedLine). holds (there hosts l i).host n ≡ false) q.split lacks)
+    lacks_base = lacked_before hosts q.front base i n (subst (λ (l : List (At KeptLine)). holds (there hosts l i).host n ≡ false) q.split lacks)
 
     lacks_part : holds (there hosts part i).host n ≡ false
     lacks_part = lacked_before hosts (e ∷ []) part i n lacks
@@ -181,19 +180,19 @@ module _ (told : LastNumbersAreTold) (hosts : ℕ → Opening) (terms : Terms) (
     holds_it = still_held hosts terms trace (newer ++ q.front) base session split_q settled n held
 
     within_q : trace ≡ newer ++ (q.front ++ base)
-    within_q = split ∙ ap (λ (l : List TimedLine). newer ++ l) q.split
+    within_q = split ∙ ap (λ (l : List (At KeptLine)). newer ++ l) q.split
 
-    in_row : (d : DrawopValue) → d.name ≡ n → (front older : List TimedLine) (x : DrawopValue) → q.front ++ base ≡ front ++ older → Contains (there hosts older j).host.is.held x
+    in_row : (d : DrawopValue) → d.name ≡ n → (front older : List (At KeptLine)) (x : DrawopValue) → q.front ++ base ≡ front ++ older → Contains (there hosts older j).host.is.held x
         → x.name.page ≡ d.name.page → x.name.source ≡ d.name.source → x.name.seq ≤ d.name.seq
     in_row d is front older x same there_x page source =
         let some = held_was_held hosts terms trace (newer ++ front) older j x.name session
-        (within_q ∙ ap (λ (l : List TimedLine). newer ++ l) same ∙ sym (append_assoc newer front older)) held.1
+        (within_q ∙ ap (λ (l : List (At KeptLine)). newer ++ l) same ∙ sym (append_assoc newer front older)) held.1
         (holds_from (there hosts older j).host.is.held x.name x there_x refl) in
         subst (λ (m : NameValue). x.name.seq ≤ m.seq) (sym is)
         (last x.name some (page ∙ ap (λ (m : NameValue). m.page) is) (source ∙ ap (λ (m : NameValue). m.source) is))
 
     abbrev Told : NameValue → Type 0
-    Told m = IsTold hosts q.front base j (called_at base + telling) m.page (record { source = m.source; high = m.seq })
+    Told m = IsTold hosts q.front base j (time_of base + telling) m.page (record { source = m.source; high = m.seq })
 
     t : Told n
     t = by (held_as (there hosts base j).host.is.held n holds_it) where
@@ -204,18 +203,18 @@ module _ (told : LastNumbersAreTold) (hosts : ℕ → Opening) (terms : Terms) (
           (let after = q.after in let first = since_start in omega (arith, after, first))
           x.1 (subst (λ (m : NameValue). 1 ≤ m.seq) (sym x.2) counted) (in_row x.0 x.2) (before_end_of begins))
         where
-          before_end_of : q.next.time ≤ credited + turn_span terms → q.next.time + telling < called_at (q.front ++ base)
-          before_end_of b = subst (λ (l : List TimedLine). q.next.time + telling < called_at l) q.split (let l = later_then in omega (arith, b, l))
+          before_end_of : q.next.time ≤ credited + turn_span terms → q.next.time + telling < time_of (q.front ++ base)
+          before_end_of b = subst (λ (l : List (At KeptLine)). q.next.time + telling < time_of l) q.split (let l = later_then in omega (arith, b, l))
 
     abbrev report : Datagram
     report = Session (hosts j).number t.sent n.page t.marks t.echoes
 
-    abbrev older_t : List TimedLine
+    abbrev older_t : List (At KeptLine)
     older_t = t.between ++ base
 
     whole_t : trace ≡ (newer ++ t.later) ++ t.e ∷ older_t
     whole_t =
-        within_q ∙ ap (λ (l : List TimedLine). newer ++ (l ++ base)) t.split ∙ ap (λ (l : List TimedLine). newer ++ l) (append_assoc t.later (t.e ∷ t.between) base)
+        within_q ∙ ap (λ (l : List (At KeptLine)). newer ++ (l ++ base)) t.split ∙ ap (λ (l : List (At KeptLine)). newer ++ l) (append_assoc t.later (t.e ∷ t.between) base)
         ∙ sym (append_assoc newer t.later (t.e ∷ older_t))
 
     differ : j ≡ i → ⊥
@@ -229,19 +228,19 @@ module _ (told : LastNumbersAreTold) (hosts : ℕ → Opening) (terms : Terms) (
 
     h : IsHandedIn (newer ++ t.later) i (t.e.time + terms.delivery) report
     h = reports_come hosts (newer ++ t.later) (t.e ∷ older_t) i (t.e.time + terms.delivery) report refl
-        (session.delivered (newer ++ t.later) older_t t.e i report whole_t live (λ same. differ (sym (eqb-true t.e.at.place j t.place) ∙ same))
+        (session.delivered (newer ++ t.later) older_t t.e i report whole_t live (λ same. differ (sym (eqb-true t.e.place j t.place) ∙ same))
         (let a = after_base in let first = quiet_start in omega (arith, a, first)) t.report
         (let end = ends_later in let by = told_by in omega (arith, end, by))) where
-          ends_later : e.time ≤ called_at trace
-          ends_later = subst (λ (l : List TimedLine). e.time ≤ called_at l) (sym split) (calls_end newer (e ∷ part) (subst AreCalledInOrder split session.order))
+          ends_later : e.time ≤ time_of trace
+          ends_later = subst (λ (l : List (At KeptLine)). e.time ≤ time_of l) (sym split) (before_end newer (e ∷ part) (subst AreInOrder split session.order))
 
     -- ---- it is heard
 
-    abbrev older_h : List TimedLine
+    abbrev older_h : List (At KeptLine)
     older_h = h.between ++ t.e ∷ older_t
 
     whole_h : trace ≡ h.later ++ h.call ∷ older_h
-    whole_h = whole_t ∙ ap (λ (l : List TimedLine). l ++ t.e ∷ older_t) h.split ∙ append_assoc h.later (h.call ∷ h.between) (t.e ∷ older_t)
+    whole_h = whole_t ∙ ap (λ (l : List (At KeptLine)). l ++ t.e ∷ older_t) h.split ∙ append_assoc h.later (h.call ∷ h.between) (t.e ∷ older_t)
 
     heard_by : h.call.time + (request_span terms + repairing terms) < e.time
     heard_by = let soon = h.soon in let by = told_by in omega (arith, soon, by)
@@ -250,57 +249,57 @@ module _ (told : LastNumbersAreTold) (hosts : ℕ → Opening) (terms : Terms) (
     heard_after =
         let o = ordered hosts terms trace session h.later (h.call ∷ older_h) whole_h in
         let first = o.0 in
-        let end = calls_end h.between (t.e ∷ older_t) o.1 in
+        let end = before_end h.between (t.e ∷ older_t) o.1 in
         let a = after_base in
         omega (arith, first, end, a)
 
-    here : nat_eq h.call.at.place i ≡ true
-    here = eq-eqb h.call.at.place i h.place
+    here : nat_eq h.call.place i ≡ true
+    here = eq-eqb h.call.place i h.place
 
     -- the calls after it, and those of the window up to it
-    z : (z : List TimedLine) × (part ≡ z ++ h.call ∷ older_h)
-    z = by (calls_past newer (e ∷ part) h.later (h.call ∷ older_h) (sym split ∙ whole_h) (subst AreCalledInOrder split session.order) earlier) where
+    z : (z : List (At KeptLine)) × (part ≡ z ++ h.call ∷ older_h)
+    z = by (in_past newer (e ∷ part) h.later (h.call ∷ older_h) (sym split ∙ whole_h) (subst AreInOrder split session.order) earlier) where
       earlier : h.call.time < e.time
       earlier = let by = heard_by in omega (arith, by)
 
-      by : (w : List TimedLine) × (e ∷ part ≡ w ++ h.call ∷ older_h) → (z : List TimedLine) × (part ≡ z ++ h.call ∷ older_h)
+      by : (w : List (At KeptLine)) × (e ∷ part ≡ w ++ h.call ∷ older_h) → (z : List (At KeptLine)) × (part ≡ z ++ h.call ∷ older_h)
       by w = before_newest w.0 e h.call part older_h w.1 earlier
 
-    upto : (middle : List TimedLine) × (h.call ∷ older_h ≡ middle ++ p.part)
-    upto = calls_past h.later (h.call ∷ older_h) (((newer ++ q.front) ++ p.front) ++ p.next ∷ []) p.part (sym whole_h ∙ upto_p) (subst AreCalledInOrder whole_h session.order)
+    upto : (middle : List (At KeptLine)) × (h.call ∷ older_h ≡ middle ++ p.part)
+    upto = in_past h.later (h.call ∷ older_h) (((newer ++ q.front) ++ p.front) ++ p.next ∷ []) p.part (sym whole_h ∙ upto_p) (subst AreInOrder whole_h session.order)
         (let by = p.by in let a = heard_after in omega (arith, by, a))
 
     window_is : window ≡ z.0 ++ upto.0
     window_is = append_cancel_right window (z.0 ++ upto.0) p.part
-        (sym whole ∙ z.1 ∙ ap (λ (l : List TimedLine). z.0 ++ l) upto.1 ∙ sym (append_assoc z.0 upto.0 p.part))
+        (sym whole ∙ z.1 ∙ ap (λ (l : List (At KeptLine)). z.0 ++ l) upto.1 ∙ sym (append_assoc z.0 upto.0 p.part))
 
     -- what is asked for up to it is asked for in the window
     many_so : 64 ≤ ask_count (performs_in hosts i upto.0 p.part) → Many
     many_so few =
         let both = asked_both hosts i z.0 upto.0 p.part in
-        subst (λ (l : List TimedLine). 64 ≤ ask_count (performs_in hosts i l p.part)) (sym window_is) (omega (arith, few, both))
+        subst (λ (l : List (At KeptLine)). 64 ≤ ask_count (performs_in hosts i l p.part)) (sym window_is) (omega (arith, few, both))
 
     abbrev k_then : Keeping
     k_then = there hosts older_h i
 
     lacks_then : holds k_then.host n ≡ false
     lacks_then = lacked_before hosts (z.0 ++ h.call ∷ []) older_h i n
-        (subst (λ (l : List TimedLine). holds (there hosts l i).host n ≡ false) (z.1 ∙ sym (append_assoc z.0 (h.call ∷ []) older_h)) lacks_part)
+        (subst (λ (l : List (At KeptLine)). holds (there hosts l i).host n ≡ false) (z.1 ∙ sym (append_assoc z.0 (h.call ∷ []) older_h)) lacks_part)
 
     other : (hosts j).number ≡ k_then.host.is.number → ⊥
-    other same = differ (session.distinct j i (same ∙ (of_opening hosts (lines_of older_h) i).number))
+    other same = differ (session.distinct j i (same ∙ (of_opening hosts older_h i).number))
 
     wants : IsAskedInCall n (came h.now report) k_then ⊎ LacksCredit (after_doing (came h.now report) k_then)
     wants =
         told_wants k_then h.now (hosts j).number t.sent n.page t.marks t.echoes other n (named_in k_then.host.is.number n t.marks small t.among) (record {
-          answers_held = answers_at hosts (lines_of older_h) i;
+          answers_held = answers_at hosts older_h i;
           lacks = lacks_then;
           room = session.room (h.later ++ h.call ∷ []) older_h i (whole_h ∙ sym (append_assoc h.later (h.call ∷ []) older_h)) live late_older;
         }) where
-          late_older : terms.quiet < called_at older_h
+          late_older : terms.quiet < time_of older_h
           late_older =
               let o = ordered hosts terms trace session h.later (h.call ∷ older_h) whole_h in
-              let end = calls_end h.between (t.e ∷ older_t) o.1 in
+              let end = before_end h.between (t.e ∷ older_t) o.1 in
               let a = after_base in
               let first = quiet_start in
               omega (arith, end, a, first)
@@ -319,9 +318,9 @@ module _ (told : LastNumbersAreTold) (hosts : ℕ → Opening) (terms : Terms) (
 
     short_upto : LacksCredit (after_doing (came h.now report) k_then) → 64 ≤ ask_count (performs_in hosts i upto.0 p.part)
     short_upto without = without_credit hosts i upto.0 p.part
-        (subst (λ (l : List TimedLine). AreTaken hosts (lines_of l)) upto.1 (taken_of hosts h.later (h.call ∷ older_h) (subst (λ (l : List TimedLine). AreTaken hosts (lines_of l)) whole_h session.taken)))
-        (subst (λ (l : List TimedLine). LacksCredit (there hosts l i)) upto.1 (subst LacksCredit (sym m_is) without))
-        (subst (λ (l : List TimedLine). (there hosts p.part i).policy.owed ≤ present (there hosts l i).host) upto.1 paid) where
+        (subst (λ (l : List (At KeptLine)). AreTaken hosts l) upto.1 (taken_of hosts h.later (h.call ∷ older_h) (subst (λ (l : List (At KeptLine)). AreTaken hosts l) whole_h session.taken)))
+        (subst (λ (l : List (At KeptLine)). LacksCredit (there hosts l i)) upto.1 (subst LacksCredit (sym m_is) without))
+        (subst (λ (l : List (At KeptLine)). (there hosts p.part i).policy.owed ≤ present (there hosts l i).host) upto.1 paid) where
           paid : (there hosts p.part i).policy.owed ≤ present m_then.host
           paid =
               let near = (near_there hosts terms trace (((newer ++ q.front) ++ p.front) ++ p.next ∷ []) p.part i session upto_p live).owed in
@@ -338,14 +337,14 @@ module _ (told : LastNumbersAreTold) (hosts : ℕ → Opening) (terms : Terms) (
     -- ---- it is asked for
 
     -- it comes before the end of the window, or is given up in a crowd
-    fate : (front back : List Performed) (ask : AskTimer) → performed hosts trace ≡ front ++ back → time_of back ≡ h.call.time → timer_then hosts back i n ≡ Some ask → Many
+    fate : (front back : List (At Line)) (ask : AskTimer) → performed hosts trace ≡ front ++ back → time_of back ≡ h.call.time → timer_then hosts back i n ≡ Some ask → Many
     fate front back ask is at stands = ⊎_elim
         (λ (comes : AllHoldBehind starts terms (performed hosts trace) (time_of back + request_span terms + repairing terms) n).
         absurd (true≢false (sym (held_before hosts terms trace newer part e i (time_of back + request_span terms + repairing terms) n split comes (let by = heard_by in omega (arith, by, at)) live) ∙ lacks_part)))
         (λ (g : (ask.level ≡ 0) × IsGivenUp starts (performed hosts trace) back i n ask (max (time_of back) (time_of back + terms.asking * terms.far) + terms.late)). given_up g.0 g.1)
         (comes_or_is_given_up hosts terms trace wait timely waits front back i n ask is (let a = heard_after in let first = known_start in omega (arith, a, first, at)) live held stands) where
           given_up : ask.level ≡ 0 → IsGivenUp starts (performed hosts trace) back i n ask (max (time_of back) (time_of back + terms.asking * terms.far) + terms.late) → Many
-          given_up new g = crowd_asks hosts terms trace newer window p.part e i g.e.time session.order (split ∙ ap (λ (l : List TimedLine). newer ++ e ∷ l) whole)
+          given_up new g = crowd_asks hosts terms trace newer window p.part e i g.e.time session.order (split ∙ ap (λ (l : List (At KeptLine)). newer ++ e ∷ l) whole)
               (let by = p.by in let b = behind in let a = heard_after in omega (arith, by, b, a)) (let first = quiet_start in let b = behind in let a = heard_after in omega (arith, first, b, a))
               (let by = by_end in let r = heard_by in omega (arith, by, r))
               (crowd hosts terms trace i session timely live g.front (g.between ++ back) g.e g.split late n ask g.place g.line g.stands new) where
@@ -374,7 +373,7 @@ module _ (told : LastNumbersAreTold) (hosts : ℕ → Opening) (terms : Terms) (
     window_counts : asks_since hosts from i p.part + 64 ≤ asks_since hosts from i part
     window_counts =
         let many = window_asks in
-        let counts = asked_since hosts i more.0 p.next p.part from (subst AreCalledInOrder more.1 (ordered hosts terms trace session (newer ++ e ∷ []) part (split ∙ sym (append_assoc newer (e ∷ []) part)))) (let after = p.after in omega (arith, after)) in
+        let counts = asked_since hosts i more.0 p.next p.part from (subst AreInOrder more.1 (ordered hosts terms trace session (newer ++ e ∷ []) part (split ∙ sym (append_assoc newer (e ∷ []) part)))) (let after = p.after in omega (arith, after)) in
         let same = ap (asks_since hosts from i) more.1 in
         omega (arith, many, counts, same)
 
@@ -382,24 +381,24 @@ module _ (told : LastNumbersAreTold) (hosts : ℕ → Opening) (terms : Terms) (
 
     -- the host of a window is handed a report at this call
     v : IsInWindow window p.part z.0 older_h h.call
-    v = in_window window p.part z.0 older_h h.call (sym whole ∙ z.1) (subst AreCalledInOrder whole (ordered hosts terms trace session (newer ++ e ∷ []) part (split ∙ sym (append_assoc newer (e ∷ []) part))))
+    v = in_window window p.part z.0 older_h h.call (sym whole ∙ z.1) (subst AreInOrder whole (ordered hosts terms trace session (newer ++ e ∷ []) part (split ∙ sym (append_assoc newer (e ∷ []) part))))
         (let by = p.by in let a = heard_after in omega (arith, by, a))
 
     in_whole : trace ≡ newer ++ e ∷ (window ++ p.part)
-    in_whole = split ∙ ap (λ (l : List TimedLine). newer ++ e ∷ l) whole
+    in_whole = split ∙ ap (λ (l : List (At KeptLine)). newer ++ e ∷ l) whole
 
     upto_part : trace ≡ (newer ++ e ∷ []) ++ (window ++ p.part)
     upto_part = in_whole ∙ sym (append_assoc newer (e ∷ []) (window ++ p.part))
 
-    settled_in : (front rest : List TimedLine) (y : TimedLine) → window ≡ front ++ y ∷ rest → settled_by terms < y.time
+    settled_in : (front rest : List (At KeptLine)) (y : At KeptLine) → window ≡ front ++ y ∷ rest → settled_by terms < y.time
     settled_in front rest y is =
-        let after = all_after more.0 p.next p.part (at_window k) (subst AreCalledInOrder more.1 (ordered hosts terms trace session (newer ++ e ∷ []) part (split ∙ sym (append_assoc newer (e ∷ []) part)))) p.after front rest y is in
+        let after = all_after more.0 p.next p.part (at_window k) (subst AreInOrder more.1 (ordered hosts terms trace session (newer ++ e ∷ []) part (split ∙ sym (append_assoc newer (e ∷ []) part)))) p.after front rest y is in
         let first = known_start in
         omega (arith, after, first)
 
     module _ (holes_held : HolesAreHeld hosts terms trace) (crowds : ℕ) (longer : window_span terms slices pause + crowds * (2 * request_span terms) + coming terms ≤ span)
         (enough : 64 * 250000 + (16000000 + terms.late) + crowds * (2 * request_span terms) < crowds * (64 * 250000)) (same : (there hosts (window ++ p.part) i).host.is.held ≡ (there hosts p.part i).host.is.held) where
-      abbrev Awake : List TimedLine → Type 0
+      abbrev Awake : List (At KeptLine) → Type 0
       Awake calls = IsAwake hosts terms trace i session holes_held live (newer ++ e ∷ []) window p.part upto_part settled_in same calls
 
       awake_by_asking : HasAsk (does hosts h.call (v.part ++ p.part)) → Awake (h.call ∷ (v.part ++ p.part))
@@ -410,8 +409,8 @@ module _ (told : LastNumbersAreTold) (hosts : ℕ → Opening) (terms : Terms) (
           (λ (stood : asks_for n k_then.host ≡ true).
           one_on hosts terms trace i session holes_held live (newer ++ e ∷ []) window p.part upto_part settled_in same z.0 v.part h.call v.window_is
           (subst Awake v.older_is (record { name = n; is = held; lacks = lacks_then; asked = stood })))
-          (λ (x : HasAsk (came h.now report (sees k_then.host) k_then.policy).lines). awake_by_asking (subst (λ (l : List TimedLine). HasAsk (does hosts h.call l)) v.older_is (
-          subst (λ (q : ℕ). HasAsk (let m = there hosts older_h q in (doing_of h.call.at.line (sees m.host) m.policy).lines)) (sym (eqb-true h.call.at.place i here))
+          (λ (x : HasAsk (came h.now report (sees k_then.host) k_then.policy).lines). awake_by_asking (subst (λ (l : List (At KeptLine)). HasAsk (does hosts h.call l)) v.older_is (
+          subst (λ (q : ℕ). HasAsk (let m = there hosts older_h q in (doing_of h.call.event (sees m.host) m.policy).lines)) (sym (eqb-true h.call.place i here))
           (subst (λ (line : KeptLine). HasAsk (doing_of line (sees k_then.host) k_then.policy).lines) (sym h.is) x))))
           (stood_or_calls n (Came h.now report) k_then a)
 
@@ -423,12 +422,12 @@ module _ (told : LastNumbersAreTold) (hosts : ℕ → Opening) (terms : Terms) (
 
       awake_then : Awake (upto.0 ++ p.part)
       awake_then = ⊎_elim
-          (λ (a : IsAskedInCall n (came h.now report) k_then). subst Awake (ap (λ (l : List TimedLine). h.call ∷ l) (sym v.older_is) ∙ upto.1) (awake_asked a))
+          (λ (a : IsAskedInCall n (came h.now report) k_then). subst Awake (ap (λ (l : List (At KeptLine)). h.call ∷ l) (sym v.older_is) ∙ upto.1) (awake_asked a))
           awake_short
           wants
 
-      time_is_so : called_at (upto.0 ++ p.part) ≡ h.call.time
-      time_is_so = ap called_at (sym upto.1)
+      time_is_so : time_of (upto.0 ++ p.part) ≡ h.call.time
+      time_is_so = ap time_of (sym upto.1)
 
       pub not_same : ⊥
       not_same = not_still hosts terms trace wait crowds i session waits holes_held live newer window p.part e in_whole settled_in same z.0 upto.0 window_is
@@ -439,7 +438,7 @@ module _ (told : LastNumbersAreTold) (hosts : ℕ → Opening) (terms : Terms) (
 
   -- ---- all windows
 
-  pub many_asks : (k : ℕ) (newer part : List TimedLine) (e : TimedLine) → trace ≡ newer ++ e ∷ part → called_at part ≤ at_window k → at_window k < e.time → holds (there hosts (e ∷ part) i).host n ≡ false
+  pub many_asks : (k : ℕ) (newer part : List (At KeptLine)) (e : At KeptLine) → trace ≡ newer ++ e ∷ part → time_of part ≤ at_window k → at_window k < e.time → holds (there hosts (e ∷ part) i).host n ≡ false
       → 64 * k ≤ asks_since hosts from i part
   many_asks zero newer part e split ends goes_on lacks = omega arith
   many_asks (suc k) newer part e split ends goes_on lacks =

@@ -17,7 +17,7 @@ use Rattle.wb_policy.proofs.HeldTops.{below_top}
 use Rattle.wb_kept_progress.specs.Rounds.{OneLacksAtMost}
 use Rattle.wb_kept_progress.specs.Sessions.{Opening}
 use Rattle.wb_kept_progress.specs.Telling.{HaveSlices, LastNumbersAreTold}
-use Rattle.wb_kept_progress.specs.Timed.{TimedLine, called_at}
+use Rattle.wb_kept_progress.specs.Timed.{At, time_of}
 use Rattle.wb_kept_progress.specs.Topped.{AreNumbered, AskAtMost, SessionsBecomeWholeAnyway, SessionsBecomeWholeSoon, TopsAreHeldAnyway, TopsAreHeldSoon, asks_since, gained_by, gaining_span, topped_by, window_span, windows_from}
 use Rattle.wb_kept_progress.specs.Whole.{HolesAreHeld, IsHeldBySome, IsTimelySession, ReportWithin, WaitAtMost, request_span, there, turn_span}
 use Rattle.wb_kept_progress.proofs.Becoming.{lacked_before}
@@ -30,6 +30,7 @@ use Rattle.wb_kept_progress.proofs.SameReports.{still_held}
 use Rattle.wb_kept_progress.proofs.TopGains.{Gained, gained}
 use Rattle.wb_kept_progress.proofs.TopWindows.{many_asks}
 use Rattle.wb_kept_progress.proofs.Waking.{holes_are_filled}
+use Rattle.wb_keeping.specs.Laws.{KeptLine}
 
 -- ---- the greatest of some
 
@@ -63,7 +64,7 @@ greatest (p ∷ (x ∷ places)) f one c = by (greatest (x ∷ places) f x (Conta
 
 -- ---- the last number of a source
 
-module _ (hosts : ℕ → Opening) (terms : Terms) (trace newer older : List TimedLine) (session : IsTimelySession hosts terms trace) (split : trace ≡ newer ++ older) (settled : settled_by terms < called_at older) (n : NameValue) (some : IsHeldBySome hosts terms trace n)
+module _ (hosts : ℕ → Opening) (terms : Terms) (trace newer older : List (At KeptLine)) (session : IsTimelySession hosts terms trace) (split : trace ≡ newer ++ older) (settled : settled_by terms < time_of older) (n : NameValue) (some : IsHeldBySome hosts terms trace n)
     (counted : 1 ≤ n.seq) where
   abbrev held_at : ℕ → List DrawopValue
   held_at j = (there hosts older j).host.is.held
@@ -109,14 +110,14 @@ module _ (hosts : ℕ → Opening) (terms : Terms) (trace newer older : List Tim
 
 -- ---- the laws
 
-module _ (told : LastNumbersAreTold) (hosts : ℕ → Opening) (terms : Terms) (trace : List TimedLine) (since wait slices pause : ℕ) (session : IsTimelySession hosts terms trace) (waits : WaitAtMost hosts terms trace wait)
+module _ (told : LastNumbersAreTold) (hosts : ℕ → Opening) (terms : Terms) (trace : List (At KeptLine)) (since wait slices pause : ℕ) (session : IsTimelySession hosts terms trace) (waits : WaitAtMost hosts terms trace wait)
     (reports : ReportWithin hosts terms trace since pause) (have : HaveSlices hosts terms trace slices) (numbered : AreNumbered hosts terms trace) where
   abbrev start : ℕ
   start = windows_from terms since wait
 
   -- a live host lacks a name then that another holds, so one of the row is the last
-  module _ (newer older : List TimedLine) (i : ℕ) (n : NameValue) (split : trace ≡ newer ++ older) (late : start < called_at older) (live : Contains terms.live i) (some : IsHeldBySome hosts terms trace n) where
-    settled : settled_by terms < called_at older
+  module _ (newer older : List (At KeptLine)) (i : ℕ) (n : NameValue) (split : trace ≡ newer ++ older) (late : start < time_of older) (live : Contains terms.live i) (some : IsHeldBySome hosts terms trace n) where
+    settled : settled_by terms < time_of older
     settled = omega (arith, late)
 
     abbrev m : NameValue
@@ -142,7 +143,7 @@ module _ (told : LastNumbersAreTold) (hosts : ℕ → Opening) (terms : Terms) (
 
     -- ---- more is asked for than a host asks for
 
-    module _ (asks windows : ℕ) (few : AskAtMost hosts terms trace start asks) (enough : asks < 64 * windows) (later : start + windows * window_span terms slices pause < called_at older) (lacks : holds (there hosts older i).host.is.held m ≡ false) where
+    module _ (asks windows : ℕ) (few : AskAtMost hosts terms trace start asks) (enough : asks < 64 * windows) (later : start + windows * window_span terms slices pause < time_of older) (lacks : holds (there hosts older i).host.is.held m ≡ false) where
       abbrev time : ℕ
       time = start + windows * window_span terms slices pause
 
@@ -150,12 +151,12 @@ module _ (told : LastNumbersAreTold) (hosts : ℕ → Opening) (terms : Terms) (
       v = then_at older time later
 
       split_v : trace ≡ (newer ++ v.front) ++ v.next ∷ v.part
-      split_v = split ∙ ap (λ (l : List TimedLine). newer ++ l) v.split ∙ sym (append_assoc newer v.front (v.next ∷ v.part))
+      split_v = split ∙ ap (λ (l : List (At KeptLine)). newer ++ l) v.split ∙ sym (append_assoc newer v.front (v.next ∷ v.part))
 
       lacks_v : holds (there hosts (v.next ∷ v.part) i).host.is.held m ≡ false
-      lacks_v = lacked_before hosts v.front (v.next ∷ v.part) i m (subst (λ (l : List TimedLine). holds (there hosts l i).host.is.held m ≡ false) v.split lacks)
+      lacks_v = lacked_before hosts v.front (v.next ∷ v.part) i m (subst (λ (l : List (At KeptLine)). holds (there hosts l i).host.is.held m ≡ false) v.split lacks)
 
-      in_part : (front part : List TimedLine) → asks_since hosts start i part ≤ asks_since hosts start i (front ++ part)
+      in_part : (front part : List (At KeptLine)) → asks_since hosts start i part ≤ asks_since hosts start i (front ++ part)
       in_part [] part = omega arith
       in_part (e ∷ front) part = let rest = in_part front part in omega (arith, rest)
 
@@ -164,22 +165,22 @@ module _ (told : LastNumbersAreTold) (hosts : ℕ → Opening) (terms : Terms) (
           let many = many_asks told hosts terms trace since wait slices pause start (window_span terms slices pause) i m (le_refl start) (le_refl (window_span terms slices pause)) session waits reports have live m_some m_last
           (numbered m m_some).0 (numbered m m_some).1 windows (newer ++ v.front) v.part v.next split_v v.by v.after lacks_v in
           let all = few i live in
-          let part = subst (λ (l : List TimedLine). asks_since hosts start i v.part ≤ asks_since hosts start i l)
+          let part = subst (λ (l : List (At KeptLine)). asks_since hosts start i v.part ≤ asks_since hosts start i l)
           (append_assoc (newer ++ v.front) (v.next ∷ []) v.part ∙ sym split_v) (in_part ((newer ++ v.front) ++ v.next ∷ []) v.part) in
           omega (arith, many, all, part, enough)
 
     -- ---- more comes than it lacks
 
     module _ (crowds most : ℕ) (lacks_most : OneLacksAtMost hosts terms trace most) (holes_held : HolesAreHeld hosts terms trace) (enough : 64 * 250000 + (16000000 + terms.late) + crowds * (2 * request_span terms) < crowds * (64 * 250000))
-        (later : start + turn_span terms + most * gaining_span terms slices pause crowds < called_at older) (lacks : holds (there hosts older i).host.is.held m ≡ false) where
+        (later : start + turn_span terms + most * gaining_span terms slices pause crowds < time_of older) (lacks : holds (there hosts older i).host.is.held m ≡ false) where
       b : IsThen older start
       b = then_at older start late
 
-      abbrev base : List TimedLine
+      abbrev base : List (At KeptLine)
       base = b.next ∷ b.part
 
       split_base : trace ≡ (newer ++ b.front) ++ base
-      split_base = split ∙ ap (λ (l : List TimedLine). newer ++ l) b.split ∙ sym (append_assoc newer b.front base)
+      split_base = split ∙ ap (λ (l : List (At KeptLine)). newer ++ l) b.split ∙ sym (append_assoc newer b.front base)
 
       -- the first call after the start comes soon
       begins : b.next.time ≤ start + turn_span terms
@@ -196,12 +197,12 @@ module _ (told : LastNumbersAreTold) (hosts : ℕ → Opening) (terms : Terms) (
       w = then_at older (b.next.time + most * gaining_span terms slices pause crowds) (let first = begins in omega (arith, first, later))
 
       split_w : trace ≡ (newer ++ w.front) ++ w.next ∷ w.part
-      split_w = split ∙ ap (λ (l : List TimedLine). newer ++ l) w.split ∙ sym (append_assoc newer w.front (w.next ∷ w.part))
+      split_w = split ∙ ap (λ (l : List (At KeptLine)). newer ++ l) w.split ∙ sym (append_assoc newer w.front (w.next ∷ w.part))
 
       c : Gained told hosts terms trace since wait slices pause crowds i m session waits reports have holes_held enough live m_some m_last (numbered m m_some).0 (numbered m m_some).1 (newer ++ b.front) base split_base after_start w.part most
       c = gained told hosts terms trace since wait slices pause crowds i m session waits reports have holes_held enough live m_some m_last (numbered m m_some).0 (numbered m m_some).1 (newer ++ b.front) base split_base after_start
           most (newer ++ w.front) w.part w.next split_w w.by w.after
-          (lacked_before hosts w.front (w.next ∷ w.part) i m (subst (λ (l : List TimedLine). holds (there hosts l i).host.is.held m ≡ false) w.split lacks))
+          (lacked_before hosts w.front (w.next ∷ w.part) i m (subst (λ (l : List (At KeptLine)). holds (there hosts l i).host.is.held m ≡ false) w.split lacks))
 
       too_much : ⊥
       too_much =

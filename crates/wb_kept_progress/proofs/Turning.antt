@@ -40,7 +40,7 @@ use Rattle.wb_policy.proofs.Latest.{slices_are_short}
 use Rattle.wb_keeping.proofs.Performed.{then_after}
 use Rattle.wb_keeping.proofs.WantedNames.{lines_answer_held}
 use Rattle.wb_kept_progress.specs.Repairs.{AreTicks, ComesToAsk, ComesToTell, IsBrought, IsLost, MissingCanCome, MissingIsAsked, MissingIsAskedInTurn, MissingIsAskedSoon, host_at, ready_at, repair}
-use Rattle.wb_kept_progress.specs.Sessions.{AreHosts, AreSent, AreTaken, LineAt, Opening, WasSent, at, kept_at, sent_since}
+use Rattle.wb_kept_progress.specs.Sessions.{AreHosts, AreSent, AreTaken, At, Opening, WasSent, at, kept_at, sent_since}
 use Rattle.wb_kept_progress.proofs.Lines.{IsOf, lines_of}
 use Rattle.wb_kept_progress.proofs.Repairs.{asked_can_come, did_send, is_itself, places_differ, tick_in_time, tick_rests}
 use Rattle.wb_kept_progress.proofs.Leaving.{answers_on, told_of}
@@ -50,14 +50,14 @@ use Rattle.wb_kept_progress.proofs.WantedIn.{MayBeWanted}
 
 -- ---- one who answers for what it holds alone
 
-pub answers_at : (hosts : ℕ → Opening) (lines : List LineAt) (i : ℕ) → AnswersWhatIsHeld (host_at hosts lines i)
+pub answers_at : (hosts : ℕ → Opening) (lines : List (At KeptLine)) (i : ℕ) → AnswersWhatIsHeld (host_at hosts lines i)
 answers_at hosts [] i = λ name. lines_answer_held name (ticks_at (hosts i).moments) (opened_with (hosts i).constants (hosts i).number (hosts i).cells (hosts i).seed) (λ e. absurd (true≢false (sym e)))
 answers_at hosts (e ∷ older) i = by (answers_at hosts older i) (nat_eq e.place i) where
   k : Keeping
   k = kept_at hosts older i
 
-  by : AnswersWhatIsHeld k.host → (b : Bool) → AnswersWhatIsHeld (cond b (after_doing (doing_of e.line) k) k).host
-  by rest true = answers_on (doing_of e.line) k rest
+  by : AnswersWhatIsHeld k.host → (b : Bool) → AnswersWhatIsHeld (cond b (after_doing (doing_of e.event) k) k).host
+  by rest true = answers_on (doing_of e.event) k rest
   by rest false = rest
 
 -- ---- one tick
@@ -115,8 +115,8 @@ few_reported held t = by (newest_now held t) where
 
 -- ---- ticks, one after the other
 
-module _ (hosts : ℕ → Opening) (older : List LineAt) (i : ℕ) where
-  abbrev pub some_ticks : ℕ → List LineAt
+module _ (hosts : ℕ → Opening) (older : List (At KeptLine)) (i : ℕ) where
+  abbrev pub some_ticks : ℕ → List (At KeptLine)
   some_ticks zero = []
   some_ticks (suc count) = at i (Ticked (ready_at (kept_at hosts (some_ticks count ++ older) i))) ∷ some_ticks count
 
@@ -367,9 +367,9 @@ hole_is_lacked held hole number there low high =
     (λ low high. missing_is_lacked held (name_of p.0 g.0.source number) (((gaps_of_page held p.0 []).missing g.0.source number).0 (g.0, g.1, refl, low, high))) low high
 
 -- after `count` turns a number of a hole has its own, and is asked for by the next tick
-asked_after : (hosts : ℕ → Opening) (older : List LineAt) (i : ℕ) (hole : Hole) (number count bound : ℕ) → AreTaken hosts older → Contains (holes_of (host_at hosts older i).is.held) hole → hole.gap.first ≤ number → number ≤ hole.gap.last → is_full (host_at hosts older i) ≡ false
+asked_after : (hosts : ℕ → Opening) (older : List (At KeptLine)) (i : ℕ) (hole : Hole) (number count bound : ℕ) → AreTaken hosts older → Contains (holes_of (host_at hosts older i).is.held) hole → hole.gap.first ≤ number → number ≤ hole.gap.last → is_full (host_at hosts older i) ≡ false
     → count + 1 ≤ bound → (let k = kept_at hosts older i in name_in_turn k.host.is.held (after_turns k.host.is.held count k.policy.turns) ≡ Some (name_of hole.page hole.gap.source number))
-    → (newer : List LineAt) × ComesToAsk hosts newer older i (name_of hole.page hole.gap.source number) × (length newer ≤ bound)
+    → (newer : List (At KeptLine)) × ComesToAsk hosts newer older i (name_of hole.page hole.gap.source number) × (length newer ≤ bound)
 asked_after hosts older i hole number count bound taken there low high room few in_turn =
     let many = count_of hosts older i (suc count) in (
       some_ticks hosts older i (suc count),
@@ -412,39 +412,39 @@ not_ours n host small = by (nat_eq n.source host.is.number) where
 
 -- ---- lines that follow others
 
-module _ (hosts : ℕ → Opening) (more older : List LineAt) where
-  sent_later : (newer : List LineAt) (v : Datagram) → Contains (sent_since hosts newer (more ++ older)) v → Contains (sent_since hosts (newer ++ more) older) v
+module _ (hosts : ℕ → Opening) (more older : List (At KeptLine)) where
+  sent_later : (newer : List (At KeptLine)) (v : Datagram) → Contains (sent_since hosts newer (more ++ older)) v → Contains (sent_since hosts (newer ++ more) older) v
   sent_later [] v c = absurd (Contains-none v c)
   sent_later (e ∷ newer) v c =
-      let by : List LineAt → List Datagram = λ (lines : List LineAt). sent_by_doing (doing_of e.line) (kept_at hosts lines e.place) in
+      let by : List (At KeptLine) → List Datagram = λ (lines : List (At KeptLine)). sent_by_doing (doing_of e.event) (kept_at hosts lines e.place) in
       ⊎_elim
-      (λ (now : Contains (by (newer ++ (more ++ older))) v). Contains-append_left (by ((newer ++ more) ++ older)) (sent_since hosts (newer ++ more) older) v (subst (λ (lines : List LineAt). Contains (by lines) v) (sym (append_assoc newer more older)) now))
+      (λ (now : Contains (by (newer ++ (more ++ older))) v). Contains-append_left (by ((newer ++ more) ++ older)) (sent_since hosts (newer ++ more) older) v (subst (λ (lines : List (At KeptLine)). Contains (by lines) v) (sym (append_assoc newer more older)) now))
       (λ (before : Contains (sent_since hosts newer (more ++ older)) v). Contains-append_right (by ((newer ++ more) ++ older)) (sent_since hosts (newer ++ more) older) v (sent_later newer v before))
       (Contains-append_cases (by (newer ++ (more ++ older))) (sent_since hosts newer (more ++ older)) v c)
 
-  was_later : (newer : List LineAt) (line : KeptLine) → WasSent (sent_since hosts newer (more ++ older)) line → WasSent (sent_since hosts (newer ++ more) older) line
+  was_later : (newer : List (At KeptLine)) (line : KeptLine) → WasSent (sent_since hosts newer (more ++ older)) line → WasSent (sent_since hosts (newer ++ more) older) line
   was_later newer (Came now v) was = sent_later newer v was
   was_later newer (Ticked now) was = tt
   was_later newer (Added now page time op) was = tt
   was_later newer (Tuned constants) was = tt
 
-  pub sent_both : (newer : List LineAt) → AreSent hosts newer (more ++ older) → AreSent hosts more older → AreSent hosts (newer ++ more) older
+  pub sent_both : (newer : List (At KeptLine)) → AreSent hosts newer (more ++ older) → AreSent hosts more older → AreSent hosts (newer ++ more) older
   sent_both [] one other = other
-  sent_both (e ∷ newer) one other = (was_later newer e.line one.0, sent_both newer one.1 other)
+  sent_both (e ∷ newer) one other = (was_later newer e.event one.0, sent_both newer one.1 other)
 
 -- what lines bring that follow others, all of them bring
-pub brought_behind : (hosts : ℕ → Opening) (newer more older : List LineAt) (i j : ℕ) (d : DrawopValue) → AreSent hosts more older
+pub brought_behind : (hosts : ℕ → Opening) (newer more older : List (At KeptLine)) (i j : ℕ) (d : DrawopValue) → AreSent hosts more older
     → (host_at hosts (more ++ older) i).is.held ≡ (host_at hosts older i).is.held → (host_at hosts (more ++ older) j).is.held ≡ (host_at hosts older j).is.held → IsBrought hosts newer (more ++ older) i j d → IsBrought hosts (newer ++ more) older i j d
 brought_behind hosts newer more older i j d sent same_i same_j b =
     let e = append_assoc newer more older in
     record {
       taken = subst (AreTaken hosts) (sym e) b.taken;
       sent = sent_both hosts more older newer b.sent sent;
-      held = ap (λ (lines : List LineAt). (host_at hosts lines i).is.held) e ∙ b.held ∙ ap (λ (h : List DrawopValue). h ++ d ∷ []) same_i;
-      kept = ap (λ (lines : List LineAt). (host_at hosts lines j).is.held) e ∙ b.kept ∙ same_j;
+      held = ap (λ (lines : List (At KeptLine)). (host_at hosts lines i).is.held) e ∙ b.held ∙ ap (λ (h : List DrawopValue). h ++ d ∷ []) same_i;
+      kept = ap (λ (lines : List (At KeptLine)). (host_at hosts lines j).is.held) e ∙ b.kept ∙ same_j;
     }
 
-module _ (hosts : ℕ → Opening) (older : List LineAt) (i j : ℕ) (d : DrawopValue) (are : AreHosts hosts) (taken : AreTaken hosts older) (lost : IsLost hosts older i j d) where
+module _ (hosts : ℕ → Opening) (older : List (At KeptLine)) (i j : ℕ) (d : DrawopValue) (are : AreHosts hosts) (taken : AreTaken hosts older) (lost : IsLost hosts older i j d) where
   -- it is lost as it was, after some ticks of the one that lacks it
   still_lost : (count : ℕ) → d.name.seq < 2147483648 → IsLost hosts (some_ticks hosts older i count ++ older) i j d
   still_lost count small =
@@ -456,7 +456,7 @@ module _ (hosts : ℕ → Opening) (older : List LineAt) (i j : ℕ) (d : Drawop
         known = not_ours d.name (host_at hosts lines i) small;
       }
 
-  pub by_turn : IsMissing (host_at hosts older i).is.held d.name.page [] d.name.source d.name.seq → d.name.seq < 2147483648 → (newer : List LineAt) × IsBrought hosts newer older i j d
+  pub by_turn : IsMissing (host_at hosts older i).is.held d.name.page [] d.name.source d.name.seq → d.name.seq < 2147483648 → (newer : List (At KeptLine)) × IsBrought hosts newer older i j d
   by_turn missing small =
       let k = kept_at hosts older i in
       let turn = has_a_turn k.host.is.held k.policy.turns d.name missing small in

@@ -10,7 +10,7 @@ use Rattle.wb_policy.specs.Fairness.{name_in_turn}
 use Rattle.wb_keeping.specs.Laws.{KeptLine, doing_of}
 use Rattle.wb_keeping.specs.Performing.{Keeping, after_doing}
 use Rattle.wb_kept_progress.specs.Sessions.{Opening}
-use Rattle.wb_kept_progress.specs.Timed.{SaysNow, TimedLine}
+use Rattle.wb_kept_progress.specs.Timed.{At, SaysNow}
 use Rattle.wb_kept_progress.proofs.Moments.{IsTuned, moment_of, told_itself, told_or_tuned}
 use Rattle.wb_kept_progress.specs.Whole.{there}
 use Rattle.wb_kept_progress.proofs.TurnsApart.{DrawsNothing, IsDueThen, call_due}
@@ -51,12 +51,12 @@ fewer from some all bound le is = omega (arith, le, is)
 -- ---- the names that have their turn at a host in some calls
 
 -- each call tells a moment of its time, and nothing is drawn
-abbrev pub AreOrdinary : Terms → List TimedLine → Type 0
+abbrev pub AreOrdinary : Terms → List (At KeptLine) → Type 0
 AreOrdinary terms [] = Unit {0}
-AreOrdinary terms (e ∷ part) = (SaysNow terms e.time e.at.place e.at.line × DrawsNothing e.at.line) × AreOrdinary terms part
+AreOrdinary terms (e ∷ part) = (SaysNow terms e.time e.place e.event × DrawsNothing e.event) × AreOrdinary terms part
 
-module _ (hosts : ℕ → Opening) (terms : Terms) (i : ℕ) (base : List TimedLine) (from by : ℕ) where
-  abbrev at_i : List TimedLine → Keeping
+module _ (hosts : ℕ → Opening) (terms : Terms) (i : ℕ) (base : List (At KeptLine)) (from by : ℕ) where
+  abbrev at_i : List (At KeptLine) → Keeping
   at_i part = there hosts (part ++ base) i
 
   abbrev due_at : Keeping → ℕ
@@ -67,31 +67,31 @@ module _ (hosts : ℕ → Opening) (terms : Terms) (i : ℕ) (base : List TimedL
   at_latest moment = moment + terms.lag i + terms.drift
 
   -- each name is among these that has its turn there from one time up to another
-  abbrev AreAll : List NameValue → List TimedLine → Type 0
-  AreAll names part = (newer older : List TimedLine) (e : TimedLine) (n : NameValue) → part ≡ newer ++ e ∷ older → e.at.place ≡ i → from ≤ e.time → e.time ≤ by → (IsTuned e.at.line → ⊥) → HasTurn (at_i older) (moment_of e.at.line) n → Contains names n
+  abbrev AreAll : List NameValue → List (At KeptLine) → Type 0
+  AreAll names part = (newer older : List (At KeptLine)) (e : At KeptLine) (n : NameValue) → part ≡ newer ++ e ∷ older → e.place ≡ i → from ≤ e.time → e.time ≤ by → (IsTuned e.event → ⊥) → HasTurn (at_i older) (moment_of e.event) n → Contains names n
 
   -- and they are spaced
-  pub record Had (part : List TimedLine) (k : Keeping) : Type 0 where
+  pub record Had (part : List (At KeptLine)) (k : Keeping) : Type 0 where
     pub names : List NameValue
     pub all : AreAll names part
     pub spaced : from + length names * 1000000 ≤ max from (at_latest (due_at k))
     pub few : from + length names * 1000000 ≤ by + terms.drift + 1000000
 
   -- one call more
-  module _ (e : TimedLine) (part : List TimedLine) where
+  module _ (e : At KeptLine) (part : List (At KeptLine)) where
     -- the call itself
     abbrev IsIn : List NameValue → Type 0
-    IsIn names = (n : NameValue) → e.at.place ≡ i → from ≤ e.time → e.time ≤ by → (IsTuned e.at.line → ⊥) → HasTurn (at_i part) (moment_of e.at.line) n → Contains names n
+    IsIn names = (n : NameValue) → e.place ≡ i → from ≤ e.time → e.time ≤ by → (IsTuned e.event → ⊥) → HasTurn (at_i part) (moment_of e.event) n → Contains names n
 
     all_more : (names more : List NameValue) → AreAll names part → ((n : NameValue) → Contains names n → Contains more n) → IsIn more → AreAll more (e ∷ part)
     all_more names more all among here [] older x n split place since soon untuned turn =
         let h = heads e x part older split in
         let t = tails e x part older split in
-        here n (ap (λ (y : TimedLine). y.at.place) h ∙ place)
-        (subst (λ (y : TimedLine). from ≤ y.time) (sym h) since)
-        (subst (λ (y : TimedLine). y.time ≤ by) (sym h) soon)
-        (subst (λ (y : TimedLine). IsTuned y.at.line → ⊥) (sym h) untuned)
-        (subst (λ (l : List TimedLine). HasTurn (at_i l) (moment_of e.at.line) n) (sym t) (subst (λ (y : TimedLine). HasTurn (at_i older) (moment_of y.at.line) n) (sym h) turn))
+        here n (ap (λ (y : At KeptLine). y.place) h ∙ place)
+        (subst (λ (y : At KeptLine). from ≤ y.time) (sym h) since)
+        (subst (λ (y : At KeptLine). y.time ≤ by) (sym h) soon)
+        (subst (λ (y : At KeptLine). IsTuned y.event → ⊥) (sym h) untuned)
+        (subst (λ (l : List (At KeptLine)). HasTurn (at_i l) (moment_of e.event) n) (sym t) (subst (λ (y : At KeptLine). HasTurn (at_i older) (moment_of y.event) n) (sym h) turn))
     all_more names more all among here (y ∷ newer) older x n split place since soon untuned turn = among n (all newer older x n (tails e y part (newer ++ x ∷ older) split) place since soon untuned turn)
 
     same_names : (k next : Keeping) → (h : Had part k) → due_at k ≤ due_at next → IsIn h.names → Had (e ∷ part) next
@@ -135,35 +135,35 @@ module _ (hosts : ℕ → Opening) (terms : Terms) (i : ℕ) (base : List TimedL
         in_time true false s t = let lt = leb-false _ _ t in out_of_time (λ since soon. omega (arith, lt, soon))
         in_time false b s t = let lt = leb-false _ _ s in out_of_time (λ since soon. omega (arith, lt, since))
 
-    one_call : SaysNow terms e.time i e.at.line → DrawsNothing e.at.line → Had part (at_i part) → Had (e ∷ part) (after_doing (doing_of e.at.line) (at_i part))
+    one_call : SaysNow terms e.time i e.event → DrawsNothing e.event → Had part (at_i part) → Had (e ∷ part) (after_doing (doing_of e.event) (at_i part))
     one_call told draws h = ⊎_elim
-        (λ (t : IsTuned e.at.line). same_names k next h (le_same (due_at k) (due_at next) (tuned_due t)) (λ n place since soon untuned turn. absurd (untuned t)))
+        (λ (t : IsTuned e.event). same_names k next h (le_same (due_at k) (due_at next) (tuned_due t)) (λ n place since soon untuned turn. absurd (untuned t)))
         (λ (at : IsNowAt terms e.time i now). ⊎_elim
         (λ (then : IsDueThen now (due_at k) (due_at next)). ⊎_elim
         (λ (not_yet : (now < due_at k) × (due_at next ≡ due_at k)). let lt = not_yet.0 in same_names k next h (le_same (due_at k) (due_at next) not_yet.1) (λ n place since soon untuned turn. let due = turn.due in absurd (omega (arith, lt, due))))
         (λ (turn : (due_at k ≤ now) × (now + 1000000 ≤ due_at next)). with_turn_due now at next h turn.0 turn.1)
         then)
-        (λ (tuned : IsTuned e.at.line × (due_at next ≡ due_at k)). same_names k next h (le_same (due_at k) (due_at next) tuned.1) (λ n place since soon untuned turn. absurd (untuned tuned.0)))
-        (call_due e.at.line now k (told_itself e.at.line) draws))
-        (told_or_tuned terms e.time i e.at.line told) where
+        (λ (tuned : IsTuned e.event × (due_at next ≡ due_at k)). same_names k next h (le_same (due_at k) (due_at next) tuned.1) (λ n place since soon untuned turn. absurd (untuned tuned.0)))
+        (call_due e.event now k (told_itself e.event) draws))
+        (told_or_tuned terms e.time i e.event told) where
           now : ℕ
-          now = moment_of e.at.line
+          now = moment_of e.event
 
           k : Keeping
           k = at_i part
 
           next : Keeping
-          next = after_doing (doing_of e.at.line) (at_i part)
+          next = after_doing (doing_of e.event) (at_i part)
 
-          tuned_due : IsTuned e.at.line → due_at next ≡ due_at k
+          tuned_due : IsTuned e.event → due_at next ≡ due_at k
           tuned_due t = ap (λ (line : KeptLine). due_at (after_doing (doing_of line) (at_i part))) t.1
 
           le_same : (a b : ℕ) → b ≡ a → a ≤ b
           le_same a b e = omega (arith, e)
 
-  pub had : from ≤ by → (part : List TimedLine) → AreOrdinary terms part → Had part (at_i part)
+  pub had : from ≤ by → (part : List (At KeptLine)) → AreOrdinary terms part → Had part (at_i part)
   had le [] ordinary = record { names = []; all = λ newer older e n split. absurd (nil_ends newer e older split); spaced = omega arith; few = omega (arith, le) }
-  had le (e ∷ part) ordinary = by_place (nat_eq e.at.place i) refl (had le part ordinary.1) where
-    by_place : (b : Bool) → nat_eq e.at.place i ≡ b → Had part (at_i part) → Had (e ∷ part) (cond b (after_doing (doing_of e.at.line) (at_i part)) (at_i part))
-    by_place true same h = one_call e part (subst (λ (p : ℕ). SaysNow terms e.time p e.at.line) (eqb-true e.at.place i same) ordinary.0.0) ordinary.0.1 h
-    by_place false other h = same_names e part (at_i part) (at_i part) h (le_refl (due_at (at_i part))) (λ n place. absurd (true≢false (sym (eq-eqb e.at.place i place) ∙ other)))
+  had le (e ∷ part) ordinary = by_place (nat_eq e.place i) refl (had le part ordinary.1) where
+    by_place : (b : Bool) → nat_eq e.place i ≡ b → Had part (at_i part) → Had (e ∷ part) (cond b (after_doing (doing_of e.event) (at_i part)) (at_i part))
+    by_place true same h = one_call e part (subst (λ (p : ℕ). SaysNow terms e.time p e.event) (eqb-true e.place i same) ordinary.0.0) ordinary.0.1 h
+    by_place false other h = same_names e part (at_i part) (at_i part) h (le_refl (due_at (at_i part))) (λ n place. absurd (true≢false (sym (eq-eqb e.place i place) ∙ other)))

@@ -7,14 +7,15 @@ use Rattle.wb_display.specs.Canvas.{canvas_text}
 use Rattle.wb_progress.specs.Turns.{Terms}
 use Rattle.wb_member.specs.Queries.{view_of}
 use Rattle.wb_kept_progress.specs.Repairs.{host_at}
-use Rattle.wb_kept_progress.specs.Sessions.{LineAt, Opening}
-use Rattle.wb_kept_progress.specs.Timed.{TimedLine, called_at, lines_of}
+use Rattle.wb_kept_progress.specs.Sessions.{At, Opening}
+use Rattle.wb_kept_progress.specs.Timed.{time_of}
 use Rattle.wb_kept_progress.specs.Whole.{AreSoon, AreWithin, IsTimelySession, LackAtMost, Sizes, WaitAtMost, minute, request_span, there, whole_by}
+use Rattle.wb_keeping.specs.Laws.{KeptLine}
 
 -- ---- what a name means
 
 -- the hosts at two places hold no two drawops of one name
-abbrev pub NamesMeanOneAt : (ℕ → Opening) → List LineAt → ℕ → ℕ → Type 0
+abbrev pub NamesMeanOneAt : (ℕ → Opening) → List (At KeptLine) → ℕ → ℕ → Type 0
 NamesMeanOneAt hosts lines i j = (d e : DrawopValue) → Contains (host_at hosts lines i).is.held d → Contains (host_at hosts lines j).is.held e → d.name ≡ e.name → d ≡ e
 
 -- ---- what is shown
@@ -28,7 +29,7 @@ pub record LookAlike (one other : List DrawopValue) : Type 0 where
 
 -- After the time at which a session is whole, the boards of any two live hosts look alike, if no name means two drawops to them.
 abbrev pub SessionsAgree : Type 0
-SessionsAgree = (hosts : ℕ → Opening) (terms : Terms) (trace newer later : List TimedLine) (sizes : Sizes) (wait most i j : ℕ)
+SessionsAgree = (hosts : ℕ → Opening) (terms : Terms) (trace newer later : List (At KeptLine)) (sizes : Sizes) (wait most i j : ℕ)
     → IsTimelySession hosts terms trace → AreWithin hosts terms trace sizes → AreSoon hosts terms trace sizes most → WaitAtMost hosts terms trace wait → LackAtMost hosts terms trace most → request_span terms + terms.drift ≤ minute
-    → trace ≡ newer ++ later → whole_by terms sizes wait most < called_at later → Contains terms.live i → Contains terms.live j → NamesMeanOneAt hosts (lines_of later) i j
+    → trace ≡ newer ++ later → whole_by terms sizes wait most < time_of later → Contains terms.live i → Contains terms.live j → NamesMeanOneAt hosts later i j
     → LookAlike (there hosts later i).host.is.held (there hosts later j).host.is.held

@@ -8,8 +8,9 @@ use Rattle.wb_recovery.specs.declared.limits.TheConstants.{MOST_TIMERS}
 use Rattle.wb_policy.specs.declared.limits.TheConstants.{COST, PAYS, PLACES}
 use Rattle.wb_kept_progress.specs.Rounds.{OneLacksAtMost, PlacesAreFilled}
 use Rattle.wb_kept_progress.specs.Sessions.{Opening}
-use Rattle.wb_kept_progress.specs.Timed.{AllKeptHoldBehind, TimedLine}
+use Rattle.wb_kept_progress.specs.Timed.{AllKeptHoldBehind, At}
 use Rattle.wb_kept_progress.specs.Whole.{IsHeldBySome, IsTimelySession, WaitAtMost, request_span, turn_span}
+use Rattle.wb_keeping.specs.Laws.{KeptLine}
 
 -- ---- spans, in microseconds
 
@@ -31,7 +32,7 @@ spent_in terms most rounds = (PLACES + PAYS * most) * COST + turn_span terms + r
 -- In each round `places` names come to a host that lacks something, or a crowd of 64 is asked for. So if `bringing` rounds bring all, and
 -- `crowded` crowds cost what it may spend, each live host holds what one of them held after these rounds.
 abbrev pub SessionsBecomeWholeInCrowds : Type 0
-SessionsBecomeWholeInCrowds = (hosts : ℕ → Opening) (terms : Terms) (trace : List TimedLine) (since wait most places bringing crowded : ℕ) (n : NameValue)
+SessionsBecomeWholeInCrowds = (hosts : ℕ → Opening) (terms : Terms) (trace : List (At KeptLine)) (since wait most places bringing crowded : ℕ) (n : NameValue)
     → IsTimelySession hosts terms trace → WaitAtMost hosts terms trace wait → OneLacksAtMost hosts terms trace most → PlacesAreFilled hosts terms trace since places
     → most ≤ bringing * places → spent_in terms most (bringing + crowded) ≤ crowded * (MOST_TIMERS * COST)
     → IsHeldBySome hosts terms trace n → AllKeptHoldBehind hosts terms trace (crowded_by terms since wait (bringing + crowded)) n

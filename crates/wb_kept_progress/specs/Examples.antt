@@ -19,8 +19,8 @@ use Rattle.wb_keeping.specs.Laws.{Added, Came, KeptLine, Ticked}
 use Rattle.wb_kept_progress.specs.Promises.{Holds}
 use Rattle.wb_kept_progress.specs.Crowded.{spent_in}
 use Rattle.wb_kept_progress.specs.Rounds.{OneLacksAtMost, PlacesAreFilled, rounds_by}
-use Rattle.wb_kept_progress.specs.Sessions.{Opening, at}
-use Rattle.wb_kept_progress.specs.Timed.{TimedLine, called_at, performed, until}
+use Rattle.wb_kept_progress.specs.Sessions.{Opening}
+use Rattle.wb_kept_progress.specs.Timed.{At, performed, time_of, until}
 use Rattle.wb_kept_progress.specs.Whole.{IsHeldBySome, IsLackedAt, NewAreKept, ReportWithin, Sizes, slowest, there, whole_by}
 
 -- ---- hosts, and what they draw and tell
@@ -56,8 +56,8 @@ marks = record { source = 10; high = 1 } ∷ []
 abbrev pub heard : (source sent held : ℕ) → List Echo
 heard source sent held = record { source = source; sent = sent; held = held } ∷ []
 
-abbrev pub call : (time place : ℕ) → KeptLine → TimedLine
-call time place line = record { time = time; at = at place line }
+abbrev pub call : (time place : ℕ) → KeptLine → At KeptLine
+call time place line = record { time = time; place = place; event = line }
 
 -- ---- two sessions
 
@@ -80,7 +80,7 @@ abbrev pub lively : Terms
 lively = terms_of 2000000 10000 1000 (λ i. 99999 + 599930 * i)
 
 -- the newest line is the first
-abbrev pub lively_lines : List TimedLine
+abbrev pub lively_lines : List (At KeptLine)
 lively_lines =
     call 6208734 0 (Ticked 6108735) ∷
     call 5741127 1 (Ticked 5040624) ∷
@@ -126,7 +126,7 @@ lively_lines =
 abbrev pub patient : Terms
 patient = terms_of 70000000 55000000 200000 (λ i. 999999 + 5999301 * i)
 
-abbrev pub patient_lines : List TimedLine
+abbrev pub patient_lines : List (At KeptLine)
 patient_lines =
     call 2227000872 1 (Came 2219840173 (Session 10 2225980873 page marks (heard 11 2219800173 0))) ∷
     call 2226980872 0 (Came 2225980873 (Session 11 2219800173 page marks (heard 10 2170167813 55773060))) ∷
@@ -273,7 +273,7 @@ abbrev pub sizes_in : Terms → Sizes
 sizes_in terms = slowest terms 2 0 0 1
 
 -- All premises of the laws hold, and the second host lacks the drawing once what was on its way has arrived.
-pub record Meets (terms : Terms) (trace : List TimedLine) (wait since : ℕ) : Type 0 where
+pub record Meets (terms : Terms) (trace : List (At KeptLine)) (wait since : ℕ) : Type 0 where
   -- of the law that sessions become whole
   pub whole : Holds hosts terms trace (sizes_in terms) wait 1
   -- of the law by rounds, and of that in crowds
@@ -294,5 +294,5 @@ LivelyMeets = Meets lively lively_lines 0 2600000 × (spent_in lively 1 9 ≤ 8 
 abbrev pub PatientMeets : Type 0
 PatientMeets =
     Meets patient patient_lines 0 115530000
-    × (whole_by patient (sizes_in patient) 0 1 < called_at patient_lines)
-    × (rounds_by patient 115530000 (sizes_in patient).pause 0 1 < called_at patient_lines)
+    × (whole_by patient (sizes_in patient) 0 1 < time_of patient_lines)
+    × (rounds_by patient 115530000 (sizes_in patient).pause 0 1 < time_of patient_lines)

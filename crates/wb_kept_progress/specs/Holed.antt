@@ -11,13 +11,13 @@ use Rattle.wb_progress.specs.Turns.{Terms}
 use Rattle.wb_member.specs.Judged.{holds}
 use Rattle.wb_recovery.specs.declared.limits.TheConstants.{MOST_TIMERS}
 use Rattle.wb_policy.specs.declared.limits.TheConstants.{COST}
-use Rattle.wb_keeping.specs.Laws.{Added, Came, Ticked}
+use Rattle.wb_keeping.specs.Laws.{Added, Came, KeptLine, Ticked}
 use Rattle.wb_kept_progress.specs.Crowded.{spent_in}
 use Rattle.wb_kept_progress.specs.Examples.{call, frame, heard, hosts, page, terms_of}
 use Rattle.wb_kept_progress.specs.Filling.{OnlyHolesAreLacked, filled_by}
 use Rattle.wb_kept_progress.specs.Rounds.{OneLacksAtMost}
 use Rattle.wb_kept_progress.specs.Sessions.{Opening}
-use Rattle.wb_kept_progress.specs.Timed.{TimedLine, called_at}
+use Rattle.wb_kept_progress.specs.Timed.{At, time_of}
 use Rattle.wb_kept_progress.specs.Whole.{HolesAreHeld, IsHeldBySome, IsTimelySession, WaitAtMost, there}
 
 -- ---- hosts, and what they draw and tell
@@ -43,7 +43,7 @@ abbrev pub holed : Terms
 holed = record (terms_of 2000000 1000000 20000 (λ i. 99999 + 99980 * i)) { far = 100000 }
 
 -- the newest line is the first
-abbrev pub holed_lines : List TimedLine
+abbrev pub holed_lines : List (At KeptLine)
 holed_lines =
     call 108977289 1 (Ticked 108766413) ∷
     call 107100484 0 (Ticked 107000485) ∷
@@ -166,13 +166,13 @@ holed_lines =
     []
 
 -- the first twelve, after which the second host lacks two of the three drawings
-abbrev pub unfilled_lines : List TimedLine
+abbrev pub unfilled_lines : List (At KeptLine)
 unfilled_lines = drop 106 holed_lines
 
 -- ---- what it meets
 
 -- After some of its calls a host lacks a number below one that it holds, and one that goes on held that number.
-pub record IsHoleAt (hosts : ℕ → Opening) (terms : Terms) (trace calls : List TimedLine) (i : ℕ) (n : NameValue) : Type 0 where
+pub record IsHoleAt (hosts : ℕ → Opening) (terms : Terms) (trace calls : List (At KeptLine)) (i : ℕ) (n : NameValue) : Type 0 where
   pub missing : IsMissing (there hosts calls i).host.is.held n.page [] n.source n.seq
   pub held : IsHeldBySome hosts terms trace n
 
@@ -185,9 +185,9 @@ pub record HoledMeets : Type 0 where
   pub held : HolesAreHeld seldom holed holed_lines
   pub only : OnlyHolesAreLacked seldom holed holed_lines holed.quiet
   pub credit : spent_in holed 2 (2 + 5) ≤ 5 * (MOST_TIMERS * COST)
-  pub late : known_from holed ≤ called_at unfilled_lines
+  pub late : known_from holed ≤ time_of unfilled_lines
   pub first : IsHoleAt seldom holed holed_lines unfilled_lines 1 (numbered 1)
   pub second : IsHoleAt seldom holed holed_lines unfilled_lines 1 (numbered 2)
   pub first_comes : holds (there seldom holed_lines 1).host (numbered 1) ≡ true
   pub second_comes : holds (there seldom holed_lines 1).host (numbered 2) ≡ true
-  pub goes_on : filled_by holed holed.quiet 0 (2 + 5) < called_at holed_lines
+  pub goes_on : filled_by holed holed.quiet 0 (2 + 5) < time_of holed_lines

@@ -12,14 +12,14 @@ use Rattle.wb_keeping.specs.Kept.{Line}
 use Rattle.wb_keeping.specs.Laws.{Came, KeptLine, doing_of}
 use Rattle.wb_keeping.specs.Performing.{Keeping, after_lines, sees}
 use Rattle.wb_kept_progress.specs.Repairs.{host_at}
-use Rattle.wb_kept_progress.specs.Sessions.{AreTaken, LineAt, Opening, at, kept_at}
+use Rattle.wb_kept_progress.specs.Sessions.{AreTaken, At, Opening, at, kept_at}
 
 -- the line with which a drawop comes to the host at a place, after others
-abbrev pub with_drawop : ℕ → ℕ → DrawopValue → List LineAt → List LineAt
+abbrev pub with_drawop : ℕ → ℕ → DrawopValue → List (At KeptLine) → List (At KeptLine)
 with_drawop i now d older = at i (Came now (Draw d)) ∷ older
 
 -- It is new: no line was refused, the host lacked it, and its board has a free cell afterwards.
-pub record IsNew (hosts : ℕ → Opening) (older : List LineAt) (i now : ℕ) (d : DrawopValue) : Type 0 where
+pub record IsNew (hosts : ℕ → Opening) (older : List (At KeptLine)) (i now : ℕ) (d : DrawopValue) : Type 0 where
   pub taken : AreTaken hosts (with_drawop i now d older)
   pub lacked : holds (host_at hosts older i) d.name ≡ false
   pub room : is_full (host_at hosts (with_drawop i now d older) i) ≡ false
@@ -50,7 +50,7 @@ IsShort k = (PLACES_OF_LAST - 1) * COST < k.policy.owed - present k.host
 
 -- Each neighbour that is missing is asked for meanwhile, or credit is short.
 abbrev pub NeighboursAreAskedFor : Type 0
-NeighboursAreAskedFor = (hosts : ℕ → Opening) (older : List LineAt) (i now : ℕ) (d : DrawopValue) (n : NameValue) → IsNew hosts older i now d
+NeighboursAreAskedFor = (hosts : ℕ → Opening) (older : List (At KeptLine)) (i now : ℕ) (d : DrawopValue) (n : NameValue) → IsNew hosts older i now d
     → let m = kept_at hosts (with_drawop i now d older) i in
     IsNeighbour d.name n → IsMissingAt m n → IsAskedBy (Came now (Draw d)) (kept_at hosts older i) n ⊎ IsShort m
 
@@ -64,6 +64,6 @@ pub record AsksForMissing (k : Keeping) : Type 0 where
 
 -- If it was asked for, and a number is missing then, some missing number is asked for.
 abbrev pub AskedLeadsOn : Type 0
-AskedLeadsOn = (hosts : ℕ → Opening) (older : List LineAt) (i now : ℕ) (d : DrawopValue) (n : NameValue) → IsNew hosts older i now d → asks_for d.name (host_at hosts older i) ≡ true
+AskedLeadsOn = (hosts : ℕ → Opening) (older : List (At KeptLine)) (i now : ℕ) (d : DrawopValue) (n : NameValue) → IsNew hosts older i now d → asks_for d.name (host_at hosts older i) ≡ true
     → let m = kept_at hosts (with_drawop i now d older) i in
     IsMissingAt m n → AsksForMissing m

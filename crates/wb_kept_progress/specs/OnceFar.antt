@@ -8,9 +8,9 @@ use Rattle.wb_recovery.specs.declared.timers.AskTimer.{AskTimer}
 use Rattle.wb_progress.specs.Turns.{Terms}
 use Rattle.wb_member.specs.Judged.{holds}
 use Rattle.wb_policy.specs.Turns.{nowhere}
-use Rattle.wb_keeping.specs.Laws.{Added, Came, Ticked}
+use Rattle.wb_keeping.specs.Laws.{Added, Came, KeptLine, Ticked}
 use Rattle.wb_kept_progress.specs.Examples.{call, drawing, drawn, frame, heard, hosts, marks, page, terms_of}
-use Rattle.wb_kept_progress.specs.Timed.{TimedLine, performed, start_of, timers_after, until}
+use Rattle.wb_kept_progress.specs.Timed.{At, performed, start_of, timers_after, until}
 use Rattle.wb_kept_progress.specs.Whole.{IsTimelySession, there}
 
 -- Each host is called within 10 milliseconds. From `quiet` on no delay is above half a second. The clock of the second host goes slow by a ten-thousandth.
@@ -18,7 +18,7 @@ abbrev pub once_far : Terms
 once_far = record (terms_of 8000000 10000 2000 (λ i. 99999 + 599930 * i)) { far = 500000 }
 
 -- the newest line is the first
-abbrev pub once_far_lines : List TimedLine
+abbrev pub once_far_lines : List (At KeptLine)
 once_far_lines =
     call 12069569 1 (Came 11368434 (Draw drawing)) ∷
     call 12060204 1 (Ticked 11359069) ∷

@@ -19,16 +19,16 @@ use Rattle.wb_names.specs.declared.name.TheConstants.{FIRST_FORGED}
 use Rattle.wb_policy.specs.declared.limits.TheConstants.{LONGEST_PAUSE, MOST_MARKS, ROUND_LIMIT, WINDOW}
 use Rattle.wb_keeping.specs.Fairness.{AnswersWhatIsHeld}
 use Rattle.wb_keeping.specs.Kept.{turn}
-use Rattle.wb_keeping.specs.Laws.{Came, Ticked}
+use Rattle.wb_keeping.specs.Laws.{Came, KeptLine, Ticked}
 use Rattle.wb_keeping.specs.Performing.{Keeping, after_doing}
 use Rattle.wb_keeping.specs.Refusing.{is_unknown}
-use Rattle.wb_kept_progress.specs.Sessions.{AreHosts, AreSent, AreTaken, LineAt, Opening, at, kept_at, sent_since}
+use Rattle.wb_kept_progress.specs.Sessions.{AreHosts, AreSent, AreTaken, At, Opening, at, kept_at, sent_since}
 
-abbrev pub host_at : (ℕ → Opening) → List LineAt → ℕ → Opened
+abbrev pub host_at : (ℕ → Opening) → List (At KeptLine) → ℕ → Opened
 host_at hosts lines i = (kept_at hosts lines i).host
 
 -- One host lacks a drawop that another holds, and has a free cell. It is none of its own number that would be refused as forged.
-pub record IsLost (hosts : ℕ → Opening) (older : List LineAt) (i j : ℕ) (d : DrawopValue) : Type 0 where
+pub record IsLost (hosts : ℕ → Opening) (older : List (At KeptLine)) (i j : ℕ) (d : DrawopValue) : Type 0 where
   pub held : Contains (host_at hosts older j).is.held d
   pub lost : holds (host_at hosts older i) d.name ≡ false
   pub room : is_full (host_at hosts older i) ≡ false
@@ -36,7 +36,7 @@ pub record IsLost (hosts : ℕ → Opening) (older : List LineAt) (i j : ℕ) (d
 
 -- No line more is refused, and each brings only what these lines sent. After them the one holds the drawop beside what it held, and the other
 -- what it held.
-pub record IsBrought (hosts : ℕ → Opening) (newer older : List LineAt) (i j : ℕ) (d : DrawopValue) : Type 0 where
+pub record IsBrought (hosts : ℕ → Opening) (newer older : List (At KeptLine)) (i j : ℕ) (d : DrawopValue) : Type 0 where
   pub taken : AreTaken hosts (newer ++ older)
   pub sent : AreSent hosts newer older
   pub held : (host_at hosts (newer ++ older) i).is.held ≡ (host_at hosts older i).is.held ++ d ∷ []
@@ -46,7 +46,7 @@ pub record IsBrought (hosts : ℕ → Opening) (newer older : List LineAt) (i j 
 
 -- The host that lacks the drawop gets a tick. The one that holds it gets two ticks, then the request, then a tick. Then the drawop
 -- comes. The newest line is the first.
-abbrev pub repair : ℕ → ℕ → Opened → Opened → DrawopValue → List LineAt
+abbrev pub repair : ℕ → ℕ → Opened → Opened → DrawopValue → List (At KeptLine)
 repair i j host other d =
     let asking = present host + asking_wait in
     let first = present other + answering_wait in
@@ -61,15 +61,15 @@ repair i j host other d =
 
 -- Whatever came in before: if its request timer stands, these lines bring it.
 abbrev pub AskedCanCome : Type 0
-AskedCanCome = (hosts : ℕ → Opening) (older : List LineAt) (i j : ℕ) (d : DrawopValue) → AreHosts hosts → AreTaken hosts older → IsLost hosts older i j d → asks_for d.name (host_at hosts older i) ≡ true
+AskedCanCome = (hosts : ℕ → Opening) (older : List (At KeptLine)) (i j : ℕ) (d : DrawopValue) → AreHosts hosts → AreTaken hosts older → IsLost hosts older i j d → asks_for d.name (host_at hosts older i) ≡ true
     → IsBrought hosts (repair i j (host_at hosts older i) (host_at hosts older j) d) older i j d
 
 -- ---- a name below a top
 
 -- lines that only hand a host the time
-abbrev pub AreTicks : ℕ → List LineAt → Type 0
+abbrev pub AreTicks : ℕ → List (At KeptLine) → Type 0
 AreTicks i [] = Unit {0}
-AreTicks i (e ∷ lines) = ((e.place ≡ i) × (now : ℕ) × (e.line ≡ Ticked now)) × AreTicks i lines
+AreTicks i (e ∷ lines) = ((e.place ≡ i) × (now : ℕ) × (e.event ≡ Ticked now)) × AreTicks i lines
 
 -- from when on the next report and the next turn are due, and all names that were asked for are paid for
 abbrev pub ready_at : Keeping → ℕ
@@ -77,7 +77,7 @@ ready_at k = max (present k.host) (max (max k.policy.reports.due k.policy.pace.d
 
 -- By some ticks, of which none is refused, the request timer of a name comes to stand, and what the host holds stays. At each a report
 -- and a turn are due, so that two of them are 96 seconds apart at most.
-pub record ComesToAsk (hosts : ℕ → Opening) (newer older : List LineAt) (i : ℕ) (n : NameValue) : Type 0 where
+pub record ComesToAsk (hosts : ℕ → Opening) (newer older : List (At KeptLine)) (i : ℕ) (n : NameValue) : Type 0 where
   pub ticks : AreTicks i newer
   pub taken : AreTaken hosts (newer ++ older)
   pub soon : present (host_at hosts (newer ++ older) i) + LONGEST_PAUSE ≤ ready_at (kept_at hosts older i) + length newer * LONGEST_PAUSE
@@ -91,38 +91,38 @@ TurnsAsk = (k : Keeping) (hole : Hole) → AnswersWhatIsHeld k.host → Contains
 
 -- A number of a source that is missing below the greatest that a host holds of it comes to be asked for, if the board has a free cell.
 abbrev pub MissingIsAsked : Type 0
-MissingIsAsked = (hosts : ℕ → Opening) (older : List LineAt) (i : ℕ) (n : NameValue) → AreHosts hosts → AreTaken hosts older → IsMissing (host_at hosts older i).is.held n.page [] n.source n.seq → n.seq < FIRST_FORGED → is_full (host_at hosts older i) ≡ false
-    → (newer : List LineAt) × ComesToAsk hosts newer older i n
+MissingIsAsked = (hosts : ℕ → Opening) (older : List (At KeptLine)) (i : ℕ) (n : NameValue) → AreHosts hosts → AreTaken hosts older → IsMissing (host_at hosts older i).is.held n.page [] n.source n.seq → n.seq < FIRST_FORGED → is_full (host_at hosts older i) ≡ false
+    → (newer : List (At KeptLine)) × ComesToAsk hosts newer older i n
 
 -- While the rounds are counted with 32 bits, a number of one of R holes is asked for by 64 R ticks for each 64 of the numbers of its hole or part of these, and one
 -- more, however many another hole has.
 abbrev pub MissingIsAskedInTurn : Type 0
-MissingIsAskedInTurn = (hosts : ℕ → Opening) (older : List LineAt) (i : ℕ) (hole : Hole) (number : ℕ) → AreHosts hosts → AreTaken hosts older → Contains (holes_of (host_at hosts older i).is.held) hole → hole.gap.first ≤ number → number ≤ hole.gap.last → is_full (host_at hosts older i) ≡ false
+MissingIsAskedInTurn = (hosts : ℕ → Opening) (older : List (At KeptLine)) (i : ℕ) (hole : Hole) (number : ℕ) → AreHosts hosts → AreTaken hosts older → Contains (holes_of (host_at hosts older i).is.held) hole → hole.gap.first ≤ number → number ≤ hole.gap.last → is_full (host_at hosts older i) ≡ false
     → (kept_at hosts older i).policy.turns.round + windows_in hole.gap + 1 < ROUND_LIMIT
-    → (newer : List LineAt) × ComesToAsk hosts newer older i (name_of hole.page hole.gap.source number) × (length newer ≤ windows_in hole.gap * length (holes_of (host_at hosts older i).is.held) * WINDOW + 1)
+    → (newer : List (At KeptLine)) × ComesToAsk hosts newer older i (name_of hole.page hole.gap.source number) × (length newer ≤ windows_in hole.gap * length (holes_of (host_at hosts older i).is.held) * WINDOW + 1)
 
 -- If none of these holes has more than n numbers, it is asked for by 2 R n ticks.
 abbrev pub MissingIsAskedSoon : Type 0
-MissingIsAskedSoon = (hosts : ℕ → Opening) (older : List LineAt) (i : ℕ) (hole : Hole) (number most : ℕ) → AreHosts hosts → AreTaken hosts older → Contains (holes_of (host_at hosts older i).is.held) hole → hole.gap.first ≤ number → number ≤ hole.gap.last → is_full (host_at hosts older i) ≡ false
+MissingIsAskedSoon = (hosts : ℕ → Opening) (older : List (At KeptLine)) (i : ℕ) (hole : Hole) (number most : ℕ) → AreHosts hosts → AreTaken hosts older → Contains (holes_of (host_at hosts older i).is.held) hole → hole.gap.first ≤ number → number ≤ hole.gap.last → is_full (host_at hosts older i) ≡ false
     → HaveAtMost most (host_at hosts older i).is.held → (kept_at hosts older i).policy.turns.round + 2 * most < ROUND_LIMIT
-    → (newer : List LineAt) × ComesToAsk hosts newer older i (name_of hole.page hole.gap.source number) × (length newer ≤ 2 * most * length (holes_of (host_at hosts older i).is.held))
+    → (newer : List (At KeptLine)) × ComesToAsk hosts newer older i (name_of hole.page hole.gap.source number) × (length newer ≤ 2 * most * length (holes_of (host_at hosts older i).is.held))
 
 -- So it can come from one that holds it.
 abbrev pub MissingCanCome : Type 0
-MissingCanCome = (hosts : ℕ → Opening) (older : List LineAt) (i j : ℕ) (d : DrawopValue) → AreHosts hosts → AreTaken hosts older → IsLost hosts older i j d → IsMissing (host_at hosts older i).is.held d.name.page [] d.name.source d.name.seq → d.name.seq < FIRST_FORGED
-    → (newer : List LineAt) × IsBrought hosts newer older i j d
+MissingCanCome = (hosts : ℕ → Opening) (older : List (At KeptLine)) (i j : ℕ) (d : DrawopValue) → AreHosts hosts → AreTaken hosts older → IsLost hosts older i j d → IsMissing (host_at hosts older i).is.held d.name.page [] d.name.source d.name.seq → d.name.seq < FIRST_FORGED
+    → (newer : List (At KeptLine)) × IsBrought hosts newer older i j d
 
 -- ---- any number that a report tells
 
 -- No line more is refused, and each brings only what these lines sent. After them the host holds the drawop.
-pub record HasCome (hosts : ℕ → Opening) (newer older : List LineAt) (i : ℕ) (d : DrawopValue) : Type 0 where
+pub record HasCome (hosts : ℕ → Opening) (newer older : List (At KeptLine)) (i : ℕ) (d : DrawopValue) : Type 0 where
   pub taken : AreTaken hosts (newer ++ older)
   pub sent : AreSent hosts newer older
   pub held : Contains (host_at hosts (newer ++ older) i).is.held d
 
 -- A mark of a board of S slices comes into a report: the host sends one that has it after at most twice S ticks, and twice as many more as
 -- the page that it reported last in turn has slices.
-pub record ComesToTell (hosts : ℕ → Opening) (newer older : List LineAt) (j : ℕ) (page : PageId) (m : MarkValue) : Type 0 where
+pub record ComesToTell (hosts : ℕ → Opening) (newer older : List (At KeptLine)) (j : ℕ) (page : PageId) (m : MarkValue) : Type 0 where
   pub ticks : AreTicks j newer
   pub taken : AreTaken hosts (newer ++ older)
   pub soon : present (host_at hosts (newer ++ older) j) + LONGEST_PAUSE ≤ ready_at (kept_at hosts older j) + length newer * LONGEST_PAUSE
@@ -135,12 +135,12 @@ pub record ComesToTell (hosts : ℕ → Opening) (newer older : List LineAt) (j 
   pub few : length marks ≤ MOST_MARKS
 
 abbrev pub MarksComeToBeTold : Type 0
-MarksComeToBeTold = (hosts : ℕ → Opening) (older : List LineAt) (j : ℕ) (page : PageId) (m : MarkValue) → AreTaken hosts older → Contains (pages_of (host_at hosts older j).is.held) page → Contains (report_of (host_at hosts older j).is.held page) m
-    → (newer : List LineAt) × ComesToTell hosts newer older j page m × (length newer ≤ 2 * (slices_of (host_at hosts older j).is.held + slices_on (host_at hosts older j).is.held (kept_at hosts older j).policy.told.page))
+MarksComeToBeTold = (hosts : ℕ → Opening) (older : List (At KeptLine)) (j : ℕ) (page : PageId) (m : MarkValue) → AreTaken hosts older → Contains (pages_of (host_at hosts older j).is.held) page → Contains (report_of (host_at hosts older j).is.held page) m
+    → (newer : List (At KeptLine)) × ComesToTell hosts newer older j page m × (length newer ≤ 2 * (slices_of (host_at hosts older j).is.held + slices_on (host_at hosts older j).is.held (kept_at hosts older j).policy.told.page))
 
 -- No loss is final. Whatever came in before, a drawop that one host lacks and another holds can come, if the one has two free cells and
 -- the other holds no number of its source on its page that is 2^31 or more.
 abbrev pub LostCanCome : Type 0
-LostCanCome = (hosts : ℕ → Opening) (older : List LineAt) (i j : ℕ) (d : DrawopValue) → AreHosts hosts → AreTaken hosts older → 1 ≤ d.name.seq → Contains (host_at hosts older j).is.held d → holds (host_at hosts older i) d.name ≡ false
+LostCanCome = (hosts : ℕ → Opening) (older : List (At KeptLine)) (i j : ℕ) (d : DrawopValue) → AreHosts hosts → AreTaken hosts older → 1 ≤ d.name.seq → Contains (host_at hosts older j).is.held d → holds (host_at hosts older i) d.name ≡ false
     → length (host_at hosts older i).is.held + 2 ≤ (host_at hosts older i).is.cells → highest d.name.page d.name.source (host_at hosts older j).is.held < FIRST_FORGED
-    → (newer : List LineAt) × HasCome hosts newer older i d
+    → (newer : List (At KeptLine)) × HasCome hosts newer older i d

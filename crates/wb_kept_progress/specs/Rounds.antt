@@ -6,16 +6,17 @@ use Rattle.wb_progress.specs.Turns.{Terms, settled_by}
 use Rattle.wb_member.specs.Judged.{holds}
 use Rattle.wb_member.specs.Opened.{asks_for}
 use Rattle.wb_kept_progress.specs.Sessions.{Opening}
-use Rattle.wb_kept_progress.specs.Timed.{AllKeptHoldBehind, TimedLine, called_at, performed, until}
+use Rattle.wb_kept_progress.specs.Timed.{AllKeptHoldBehind, At, performed, time_of, until}
 use Rattle.wb_kept_progress.specs.Whole.{IsHeldBySome, IsLackedAt, IsTimelySession, NewAreKept, ReportWithin, WaitAtMost, request_span, there}
+use Rattle.wb_keeping.specs.Laws.{KeptLine}
 
 -- One live host lacks at most `most` names, once what was on its way has arrived.
-abbrev pub OneLacksAtMost : (ℕ → Opening) → Terms → List TimedLine → ℕ → Type 0
+abbrev pub OneLacksAtMost : (ℕ → Opening) → Terms → List (At KeptLine) → ℕ → Type 0
 OneLacksAtMost hosts terms trace most = (i : ℕ) (names : List NameValue) → AreApart names
     → ((n : NameValue) → Contains names n → IsLackedAt hosts terms trace (until (settled_by terms) (performed hosts trace)) (record { place = i; name = n })) → length names ≤ most
 
 -- After some calls a live host asks for `many` names that others hold, each once.
-pub record AreAsked (hosts : ℕ → Opening) (terms : Terms) (trace calls : List TimedLine) (i many : ℕ) : Type 0 where
+pub record AreAsked (hosts : ℕ → Opening) (terms : Terms) (trace calls : List (At KeptLine)) (i many : ℕ) : Type 0 where
   pub names : List NameValue
   pub apart : AreApart names
   pub count : length names ≡ many
@@ -23,8 +24,8 @@ pub record AreAsked (hosts : ℕ → Opening) (terms : Terms) (trace calls : Lis
   pub asked : (n : NameValue) → Contains names n → asks_for n (there hosts calls i).host ≡ true
 
 -- From a time on, after each call, a live host asks for each name that it lacks and another holds, or for `places` of them.
-abbrev pub PlacesAreFilled : (ℕ → Opening) → Terms → List TimedLine → (since places : ℕ) → Type 0
-PlacesAreFilled hosts terms trace since places = (newer older : List TimedLine) (i : ℕ) (n : NameValue) → trace ≡ newer ++ older → Contains terms.live i → since ≤ called_at older → IsHeldBySome hosts terms trace n → holds (there hosts older i).host n ≡ false
+abbrev pub PlacesAreFilled : (ℕ → Opening) → Terms → List (At KeptLine) → (since places : ℕ) → Type 0
+PlacesAreFilled hosts terms trace since places = (newer older : List (At KeptLine)) (i : ℕ) (n : NameValue) → trace ≡ newer ++ older → Contains terms.live i → since ≤ time_of older → IsHeldBySome hosts terms trace n → holds (there hosts older i).host n ≡ false
     → (asks_for n (there hosts older i).host ≡ true) ⊎ AreAsked hosts terms trace older i places
 
 -- ---- spans, in microseconds
@@ -38,7 +39,7 @@ rounds_by terms since pause wait rounds = max (known_from terms + wait + repairi
 
 -- Then each live host holds what one of them held after `rounds` rounds of `places` names, if it gives up none before its timer was backed off.
 abbrev pub SessionsBecomeWholeByRounds : Type 0
-SessionsBecomeWholeByRounds = (hosts : ℕ → Opening) (terms : Terms) (trace : List TimedLine) (since pause wait most places rounds : ℕ) (n : NameValue)
+SessionsBecomeWholeByRounds = (hosts : ℕ → Opening) (terms : Terms) (trace : List (At KeptLine)) (since pause wait most places rounds : ℕ) (n : NameValue)
     → IsTimelySession hosts terms trace → ReportWithin hosts terms trace since pause → WaitAtMost hosts terms trace wait → OneLacksAtMost hosts terms trace most
     → NewAreKept hosts terms trace since → PlacesAreFilled hosts terms trace since places → most ≤ rounds * places
     → IsHeldBySome hosts terms trace n → AllKeptHoldBehind hosts terms trace (rounds_by terms since pause wait rounds) n

@@ -10,8 +10,9 @@ use Rattle.wb_policy.specs.Fairness.{after_reporting, marks_reported, page_repor
 use Rattle.wb_policy.specs.declared.reports.Told.{Told}
 use Rattle.wb_policy.specs.Reports.{is_telling}
 use Rattle.wb_kept_progress.specs.Sessions.{Opening}
-use Rattle.wb_kept_progress.specs.Timed.{TimedLine, called_at}
+use Rattle.wb_kept_progress.specs.Timed.{At, time_of}
 use Rattle.wb_kept_progress.specs.Whole.{IsTimelySession, ReportWithin, sends_then, there}
+use Rattle.wb_keeping.specs.Laws.{KeptLine}
 
 -- ---- boards that grow
 
@@ -45,17 +46,17 @@ EachMarkIsToldOfGrowing = (boards : ℕ → List DrawopValue) (t : Told) (page :
 -- ---- live hosts
 
 -- From `quiet` on the board of a live host has at most this many slices.
-abbrev pub HaveSlices : (ℕ → Opening) → Terms → List TimedLine → ℕ → Type 0
-HaveSlices hosts terms trace slices = (newer older : List TimedLine) (i : ℕ) → trace ≡ newer ++ older → Contains terms.live i → terms.quiet < called_at older → slices_of (there hosts older i).host.is.held ≤ slices
+abbrev pub HaveSlices : (ℕ → Opening) → Terms → List (At KeptLine) → ℕ → Type 0
+HaveSlices hosts terms trace slices = (newer older : List (At KeptLine)) (i : ℕ) → trace ≡ newer ++ older → Contains terms.live i → terms.quiet < time_of older → slices_of (there hosts older i).host.is.held ≤ slices
 
 -- by a call of a window, and by a time, a host reports a page with a mark
-pub record IsTold (hosts : ℕ → Opening) (window base : List TimedLine) (j by : ℕ) (page : PageId) (mark : MarkValue) : Type 0 where
-  pub later : List TimedLine
-  pub e : TimedLine
-  pub between : List TimedLine
+pub record IsTold (hosts : ℕ → Opening) (window base : List (At KeptLine)) (j by : ℕ) (page : PageId) (mark : MarkValue) : Type 0 where
+  pub later : List (At KeptLine)
+  pub e : At KeptLine
+  pub between : List (At KeptLine)
   pub split : window ≡ later ++ e ∷ between
-  pub place : nat_eq e.at.place j ≡ true
-  pub after : called_at base ≤ e.time
+  pub place : nat_eq e.place j ≡ true
+  pub after : time_of base ≤ e.time
   pub soon : e.time ≤ by
   pub sent : ℕ
   pub marks : List MarkValue
@@ -65,19 +66,19 @@ pub record IsTold (hosts : ℕ → Opening) (window base : List TimedLine) (j by
 
 -- So what a live host holds it tells within four times as many reports as its board has slices, or a greater number of that source, whatever comes meanwhile.
 abbrev pub HeldNumbersAreTold : Type 0
-HeldNumbersAreTold = (hosts : ℕ → Opening) (terms : Terms) (trace newest window base : List TimedLine) (slices since pause j : ℕ) (d : DrawopValue)
+HeldNumbersAreTold = (hosts : ℕ → Opening) (terms : Terms) (trace newest window base : List (At KeptLine)) (slices since pause j : ℕ) (d : DrawopValue)
     → IsTimelySession hosts terms trace → ReportWithin hosts terms trace since pause → HaveSlices hosts terms trace slices
-    → trace ≡ newest ++ (window ++ base) → Contains terms.live j → terms.quiet < called_at base → since ≤ called_at base
+    → trace ≡ newest ++ (window ++ base) → Contains terms.live j → terms.quiet < time_of base → since ≤ time_of base
     → Contains (there hosts base j).host.is.held d → 1 ≤ d.name.seq
-    → called_at base + 4 * slices * (pause + terms.late) < called_at (window ++ base)
-    → (high : ℕ) × (d.name.seq ≤ high) × IsTold hosts window base j (called_at base + 4 * slices * (pause + terms.late)) d.name.page (record { source = d.name.source; high = high })
+    → time_of base + 4 * slices * (pause + terms.late) < time_of (window ++ base)
+    → (high : ℕ) × (d.name.seq ≤ high) × IsTold hosts window base j (time_of base + 4 * slices * (pause + terms.late)) d.name.page (record { source = d.name.source; high = high })
 
 -- And it tells that number, if it stays the last of its source.
 abbrev pub LastNumbersAreTold : Type 0
-LastNumbersAreTold = (hosts : ℕ → Opening) (terms : Terms) (trace newest window base : List TimedLine) (slices since pause j : ℕ) (d : DrawopValue)
+LastNumbersAreTold = (hosts : ℕ → Opening) (terms : Terms) (trace newest window base : List (At KeptLine)) (slices since pause j : ℕ) (d : DrawopValue)
     → IsTimelySession hosts terms trace → ReportWithin hosts terms trace since pause → HaveSlices hosts terms trace slices
-    → trace ≡ newest ++ (window ++ base) → Contains terms.live j → terms.quiet < called_at base → since ≤ called_at base
+    → trace ≡ newest ++ (window ++ base) → Contains terms.live j → terms.quiet < time_of base → since ≤ time_of base
     → Contains (there hosts base j).host.is.held d → 1 ≤ d.name.seq
-    → ((newer older : List TimedLine) (x : DrawopValue) → window ++ base ≡ newer ++ older → Contains (there hosts older j).host.is.held x → x.name.page ≡ d.name.page → x.name.source ≡ d.name.source → x.name.seq ≤ d.name.seq)
-    → called_at base + 4 * slices * (pause + terms.late) < called_at (window ++ base)
-    → IsTold hosts window base j (called_at base + 4 * slices * (pause + terms.late)) d.name.page (record { source = d.name.source; high = d.name.seq })
+    → ((newer older : List (At KeptLine)) (x : DrawopValue) → window ++ base ≡ newer ++ older → Contains (there hosts older j).host.is.held x → x.name.page ≡ d.name.page → x.name.source ≡ d.name.source → x.name.seq ≤ d.name.seq)
+    → time_of base + 4 * slices * (pause + terms.late) < time_of (window ++ base)
+    → IsTold hosts window base j (time_of base + 4 * slices * (pause + terms.late)) d.name.page (record { source = d.name.source; high = d.name.seq })

@@ -8,29 +8,29 @@ use Rattle.wb_names.specs.declared.name.TheConstants.{FIRST_FORGED}
 use Rattle.wb_recovery.specs.declared.limits.TheConstants.{MOST_TIMERS}
 use Rattle.wb_policy.specs.declared.limits.TheConstants.{COST, PLACES}
 use Rattle.wb_keeping.specs.Bounds.{ask_count}
-use Rattle.wb_keeping.specs.Laws.{doing_of}
+use Rattle.wb_keeping.specs.Laws.{KeptLine, doing_of}
 use Rattle.wb_keeping.specs.Performing.{sees}
 use Rattle.wb_kept_progress.specs.Crowded.{round_span, spent_in}
 use Rattle.wb_kept_progress.specs.Filling.{OnlyHolesAreLacked, filled_by}
 use Rattle.wb_kept_progress.specs.Rounds.{OneLacksAtMost, coming}
 use Rattle.wb_kept_progress.specs.Sessions.{Opening}
 use Rattle.wb_kept_progress.specs.Telling.{HaveSlices}
-use Rattle.wb_kept_progress.specs.Timed.{AllKeptHoldBehind, TimedLine}
+use Rattle.wb_kept_progress.specs.Timed.{AllKeptHoldBehind, At}
 use Rattle.wb_kept_progress.specs.Whole.{HolesAreHeld, IsHeldBySome, IsTimelySession, ReportWithin, WaitAtMost, request_span, there, turn_span}
 
 -- ---- what is asked for
 
 -- how often a call asks for a name, after the older ones
-abbrev pub asks_then : (ℕ → Opening) → List TimedLine → TimedLine → ℕ
-asks_then hosts older e = let k = there hosts older e.at.place in ask_count (doing_of e.at.line (sees k.host) k.policy).lines
+abbrev pub asks_then : (ℕ → Opening) → List (At KeptLine) → At KeptLine → ℕ
+asks_then hosts older e = let k = there hosts older e.place in ask_count (doing_of e.event (sees k.host) k.policy).lines
 
 -- how often the host at a place asks for a name, in calls after a time
-abbrev pub asks_since : (ℕ → Opening) → (since i : ℕ) → List TimedLine → ℕ
+abbrev pub asks_since : (ℕ → Opening) → (since i : ℕ) → List (At KeptLine) → ℕ
 asks_since hosts since i [] = 0
-asks_since hosts since i (e ∷ older) = (if nat_lt since e.time && nat_eq e.at.place i then asks_then hosts older e else 0) + asks_since hosts since i older
+asks_since hosts since i (e ∷ older) = (if nat_lt since e.time && nat_eq e.place i then asks_then hosts older e else 0) + asks_since hosts since i older
 
 -- From a time on a live host asks at most `asks` times, for all names together, and also for one that it gave up.
-abbrev pub AskAtMost : (ℕ → Opening) → Terms → List TimedLine → (since asks : ℕ) → Type 0
+abbrev pub AskAtMost : (ℕ → Opening) → Terms → List (At KeptLine) → (since asks : ℕ) → Type 0
 AskAtMost hosts terms trace since asks = (i : ℕ) → Contains terms.live i → asks_since hosts since i trace ≤ asks
 
 -- ---- spans, in microseconds
@@ -57,33 +57,33 @@ gained_by terms since wait slices pause crowds most = windows_from terms since w
 -- ---- laws
 
 -- The numbers that live hosts hold count from 1, and are no forged ones.
-abbrev pub AreNumbered : (ℕ → Opening) → Terms → List TimedLine → Type 0
+abbrev pub AreNumbered : (ℕ → Opening) → Terms → List (At KeptLine) → Type 0
 AreNumbered hosts terms trace = (n : NameValue) → IsHeldBySome hosts terms trace n → (1 ≤ n.seq) × (n.seq < FIRST_FORGED)
 
 -- If 64 names in each window are more than a host asks for, each live host holds the last number of each source after these windows.
 abbrev pub TopsAreHeldSoon : Type 0
-TopsAreHeldSoon = (hosts : ℕ → Opening) (terms : Terms) (trace : List TimedLine) (since wait slices pause asks windows : ℕ)
+TopsAreHeldSoon = (hosts : ℕ → Opening) (terms : Terms) (trace : List (At KeptLine)) (since wait slices pause asks windows : ℕ)
     → IsTimelySession hosts terms trace → WaitAtMost hosts terms trace wait → ReportWithin hosts terms trace since pause → HaveSlices hosts terms trace slices → AreNumbered hosts terms trace
     → AskAtMost hosts terms trace (windows_from terms since wait) asks → asks < MOST_TIMERS * windows
     → OnlyHolesAreLacked hosts terms trace (topped_by terms since wait slices pause windows)
 
 -- Whatever hosts ask for, a window brings one name at least, if another holds each missing number.
 abbrev pub TopsAreHeldAnyway : Type 0
-TopsAreHeldAnyway = (hosts : ℕ → Opening) (terms : Terms) (trace : List TimedLine) (since wait slices pause crowds most : ℕ)
+TopsAreHeldAnyway = (hosts : ℕ → Opening) (terms : Terms) (trace : List (At KeptLine)) (since wait slices pause crowds most : ℕ)
     → IsTimelySession hosts terms trace → WaitAtMost hosts terms trace wait → ReportWithin hosts terms trace since pause → HaveSlices hosts terms trace slices → AreNumbered hosts terms trace
     → OneLacksAtMost hosts terms trace most → HolesAreHeld hosts terms trace → PLACES * COST + turn_span terms + crowds * (2 * request_span terms) < crowds * (MOST_TIMERS * COST)
     → OnlyHolesAreLacked hosts terms trace (gained_by terms since wait slices pause crowds most)
 
 -- So if another holds each missing number, each live host then holds what one of them held, after rounds as they are when hosts lack nothing but holes.
 abbrev pub SessionsBecomeWholeSoon : Type 0
-SessionsBecomeWholeSoon = (hosts : ℕ → Opening) (terms : Terms) (trace : List TimedLine) (since wait slices pause asks windows most crowded : ℕ) (n : NameValue)
+SessionsBecomeWholeSoon = (hosts : ℕ → Opening) (terms : Terms) (trace : List (At KeptLine)) (since wait slices pause asks windows most crowded : ℕ) (n : NameValue)
     → IsTimelySession hosts terms trace → WaitAtMost hosts terms trace wait → ReportWithin hosts terms trace since pause → HaveSlices hosts terms trace slices → AreNumbered hosts terms trace
     → AskAtMost hosts terms trace (windows_from terms since wait) asks → asks < MOST_TIMERS * windows
     → OneLacksAtMost hosts terms trace most → HolesAreHeld hosts terms trace → spent_in terms most (most + crowded) ≤ crowded * (MOST_TIMERS * COST)
     → IsHeldBySome hosts terms trace n → AllKeptHoldBehind hosts terms trace (filled_by terms (topped_by terms since wait slices pause windows) wait (most + crowded)) n
 
 abbrev pub SessionsBecomeWholeAnyway : Type 0
-SessionsBecomeWholeAnyway = (hosts : ℕ → Opening) (terms : Terms) (trace : List TimedLine) (since wait slices pause crowds most crowded : ℕ) (n : NameValue)
+SessionsBecomeWholeAnyway = (hosts : ℕ → Opening) (terms : Terms) (trace : List (At KeptLine)) (since wait slices pause crowds most crowded : ℕ) (n : NameValue)
     → IsTimelySession hosts terms trace → WaitAtMost hosts terms trace wait → ReportWithin hosts terms trace since pause → HaveSlices hosts terms trace slices → AreNumbered hosts terms trace
     → OneLacksAtMost hosts terms trace most → HolesAreHeld hosts terms trace → PLACES * COST + turn_span terms + crowds * (2 * request_span terms) < crowds * (MOST_TIMERS * COST)
     → spent_in terms most (most + crowded) ≤ crowded * (MOST_TIMERS * COST)

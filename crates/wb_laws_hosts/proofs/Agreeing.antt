@@ -37,8 +37,9 @@ use Rattle.wb_laws_hosts.proofs.BoardRanges.{marks_fit}
 use Rattle.wb_laws_hosts.proofs.Lines.{member_in}
 use Rattle.wb_laws_hosts.proofs.Ranges.{boards_are_in_range}
 use Rattle.wb_laws_hosts.proofs.ReportTexts.{IsSmall, report_once, some_printed, none_are_told}
-use Rattle.wb_laws_hosts.proofs.TextSessions.{older_numbered, texts_are_sessions, texts_split}
+use Rattle.wb_laws_hosts.proofs.TextSessions.{older_numbered, texts_are_sessions, texts_behind}
 use Rattle.wb_board.specs.Counts.{MAX_CELLS}
+use Rattle.wb_laws_machines.specs.Machines.{◌⊑◌}
 
 -- ---- what is printed for a question
 
@@ -73,8 +74,8 @@ is_asked tuning None member page is none = absurd (some_printed none)
 is_asked tuning (Some (Driven host board)) member page is none = record { is = is; prints = λ t query. asked_text t (Driven host board) query ∙ ap (telling.answered query) is }
 is_asked tuning (Some (Kept k)) member page is none = record { is = is; prints = λ t query. asked_text t (Kept k) query ∙ ap (telling.answered query) is }
 
-module _ (numbers : ℕ → ℕ) (events newer older newer' older' : List EventAt) (i j : ℕ) (page : PageId) (width height : ℕ) (report gaps show view : InputLine)
-    (apart : AreApart numbers) (numbered : HaveNumbers numbers events) (honest : AreHonest numbers (steps_of_texts events)) (split : events ≡ newer ++ older) (split' : events ≡ newer' ++ older')
+module _ (numbers : ℕ → ℕ) (events older older' : List EventAt) (i j : ℕ) (page : PageId) (width height : ℕ) (report gaps show view : InputLine)
+    (apart : AreApart numbers) (numbered : HaveNumbers numbers events) (honest : AreHonest numbers (steps_of_texts events)) (behind : older ⊑ events) (behind' : older' ⊑ events)
     (ask : AskOf page width height report gaps show view) where
   abbrev one : Opened
   one = host_at numbers (steps_of_texts older) i
@@ -85,27 +86,23 @@ module _ (numbers : ℕ → ℕ) (events newer older newer' older' : List EventA
   abbrev said : List EventAt → ℕ → Result DriverLine Refusal → List ℕ
   said front k line = text_in (reply (hosting_at front k).tuning (hosting_at front k).host line)
 
-  asked : (new front : List EventAt) (k : ℕ) → events ≡ new ++ front → prints_at front k gaps ≡ gaps_text [] → IsAsked (hosting_at front k).host (host_at numbers (steps_of_texts front) k)
-  asked new front k e none = is_asked (hosting_at front k).tuning (hosting_at front k).host (host_at numbers (steps_of_texts front) k) page
-      (texts_are_sessions numbers front (older_numbered numbers new front (subst (HaveNumbers numbers) e numbered)) k) (sym (ap (said front k) ask.asks_gaps) ∙ none)
+  asked : (front : List EventAt) (k : ℕ) → front ⊑ events → prints_at front k gaps ≡ gaps_text [] → IsAsked (hosting_at front k).host (host_at numbers (steps_of_texts front) k)
+  asked front k part none = is_asked (hosting_at front k).tuning (hosting_at front k).host (host_at numbers (steps_of_texts front) k) page
+      (texts_are_sessions numbers front (older_numbered numbers part numbered) k) (sym (ap (said front k) ask.asks_gaps) ∙ none)
 
-  steps_split : (new front : List EventAt) → events ≡ new ++ front → (more : List Step) × (steps_of_texts events ≡ more ++ steps_of_texts front)
-  steps_split new front e = let s = texts_split new front in (s.0, ap steps_of_texts e ∙ s.1)
-
-  few_held : (new front : List EventAt) (k : ℕ) → events ≡ new ++ front → length (host_at numbers (steps_of_texts front) k).is.held ≤ MAX_CELLS
-  few_held new front k e =
-      let s = steps_split new front e in
-      let f = fits numbers (steps_of_texts front) (older_honest numbers s.0 (steps_of_texts front) (subst (AreHonest numbers) s.1 honest)) k in
+  few_held : (front : List EventAt) (k : ℕ) → front ⊑ events → length (host_at numbers (steps_of_texts front) k).is.held ≤ MAX_CELLS
+  few_held front k part =
+      let f = fits numbers (steps_of_texts front) (older_honest numbers (texts_behind part) honest) k in
       let a = f.few in
       let b = f.small in
       omega (arith, a, b)
 
   module _ (same : prints_at older i report ≡ prints_at older' j report) (none : prints_at older i gaps ≡ gaps_text []) (nothing : prints_at older' j gaps ≡ gaps_text []) where
     here : IsAsked (hosting_at older i).host one
-    here = asked newer older i split none
+    here = asked older i behind none
 
     there : IsAsked (hosting_at older' j).host other
-    there = asked newer' older' j split' nothing
+    there = asked older' j behind' nothing
 
     -- what is printed for a question is what the member answers
     answers_here : (query : Query) (line : InputLine) → says_line (met line) ≡ Ok (asks query) → prints_at older i line ≡ telling.answered query one
@@ -117,7 +114,7 @@ module _ (numbers : ℕ → ℕ) (events newer older newer' older' : List EventA
     reports : report_of one.is.held page ≡ report_of other.is.held page
     reports = report_once (report_of one.is.held page) (report_of other.is.held page)
         (small one.is.held (boards_are_in_range older i one here.is) page) (small other.is.held (boards_are_in_range older' j other there.is) page)
-        (few one.is.held (few_held newer older i split) page) (few other.is.held (few_held newer' older' j split') page)
+        (few one.is.held (few_held older i behind) page) (few other.is.held (few_held older' j behind') page)
         (sym (answers_here (queries.Report page) report ask.asks_report) ∙ same ∙ answers_there (queries.Report page) report ask.asks_report)
 
     none_here : gaps_at page one ≡ []
@@ -128,9 +125,7 @@ module _ (numbers : ℕ → ℕ) (events newer older newer' older' : List EventA
 
     agree : Agree one other page
     agree =
-        let a = steps_split newer older split in
-        let b = steps_split newer' older' split' in
-        reports_tell_agreement numbers (steps_of_texts events) a.0 (steps_of_texts older) b.0 (steps_of_texts older') i j page apart honest a.1 b.1 reports none_here none_there
+        reports_tell_agreement numbers (steps_of_texts events) (steps_of_texts older) (steps_of_texts older') i j page apart honest (texts_behind behind) (texts_behind behind') reports none_here none_there
 
     shows : prints_at older i show ≡ prints_at older' j show
     shows = answers_here (queries.Canvas page width height) show ask.asks_show ∙ agree.canvases width height ∙ sym (answers_there (queries.Canvas page width height) show ask.asks_show)
@@ -139,7 +134,7 @@ module _ (numbers : ℕ → ℕ) (events newer older newer' older' : List EventA
     views = answers_here (queries.View page) view ask.asks_view ∙ ap view_text agree.views ∙ sym (answers_there (queries.View page) view ask.asks_view)
 
 pub reports_tell_shows : ReportsTellShows
-reports_tell_shows numbers events apart numbered honest newer older newer' older' i j page width height report gaps show view split split' ask same none nothing = (
-  shows numbers events newer older newer' older' i j page width height report gaps show view apart numbered honest split split' ask same none nothing,
-  views numbers events newer older newer' older' i j page width height report gaps show view apart numbered honest split split' ask same none nothing,
+reports_tell_shows numbers events apart numbered honest older older' i j page width height report gaps show view behind behind' ask same none nothing = (
+  shows numbers events older older' i j page width height report gaps show view apart numbered honest behind behind' ask same none nothing,
+  views numbers events older older' i j page width height report gaps show view apart numbered honest behind behind' ask same none nothing,
 )

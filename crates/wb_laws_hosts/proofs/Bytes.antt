@@ -92,5 +92,5 @@ bytes_tell_drawops numbers events line d numbered hands out =
     let there : Contains sent a.1 = (a.0, a.2, a.3) in
     let fits : (x : DrawopValue) → a.1 ≡ datagrams.Draw x → IsDrawop x = λ x is. sent_fits s.host (deeds_at s out.line) (hosts_hold out.older out.e.place) (line_brings s out.line (hosts_hold out.older out.e.place)) x (subst (Contains sent) is there) in
     let is = drawop_is a.1 d (handed_fits line d hands) fits a.4 in
-    let w : WasSentByLine events (datagrams.Draw d) = record { newer = out.newer; e = out.e; older = out.older; split = out.split; line = out.line; takes = out.takes; out = subst (Contains sent) is there } in
+    let w : WasSentByLine events (datagrams.Draw d) = record { e = out.e; older = out.older; behind = out.behind; line = out.line; takes = out.takes; out = subst (Contains sent) is there } in
     sent_was_held numbers (steps_of_texts events) d (was_sent numbers events numbered (datagrams.Draw d) w)

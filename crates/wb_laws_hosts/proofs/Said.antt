@@ -17,14 +17,15 @@ use Rattle.wb_dialog.specs.Dialog.{says_line}
 use Rattle.wb_dialog.specs.Hosting.{Host, Driven, Kept, Hosting, reply}
 use Rattle.wb_laws_sessions.specs.Drawn.{WasDrawn, drawn_at}
 use Rattle.wb_laws_sessions.specs.Sessions.{Step, host_at, sent, sent_by_deeds, steps_then}
-use Rattle.wb_laws_sessions.specs.Members.{Deed, Does, Opens}
+use Rattle.wb_laws_sessions.specs.Members.{Deed, Does, member, Opens}
 use Rattle.wb_laws_sessions.proofs.Drawn.{held_was_drawn, names_mean_one, once_held_was_drawn}
 use Rattle.wb_laws_sessions.proofs.Sending.{one_of}
 use Rattle.wb_laws_sessions.proofs.Sent.{sent_was_held}
-use Rattle.wb_laws_sessions.proofs.Several.{DrawnThen, drawn_then, sent_longer, sent_then}
+use Rattle.wb_laws_sessions.proofs.Several.{DrawnThen, drawn_then, sent_then}
 use Rattle.wb_laws_hosts.specs.Laws.{HeldWasSaid, IsOpenHost, SentOnce, SentWasSaid, WasSaid, WasSentByLine}
 use Rattle.wb_laws_hosts.specs.Texts.{TextEvent, EventAt, HaveNumbers, IsMemberAt, Starts, Takes, deeds_at, deeds_by, deeds_of_event, deeds_said, hosting_at, sent_at_host, steps_of_texts}
-use Rattle.wb_laws_hosts.proofs.TextSessions.{older_numbered, texts_are_sessions, texts_split}
+use Rattle.wb_laws_hosts.proofs.TextSessions.{older_numbered, texts_are_sessions, texts_behind}
+use Rattle.wb_laws_machines.proofs.Traces.{sent_later}
 
 -- ---- what lines send is sent by their steps
 
@@ -37,13 +38,12 @@ module _ (numbers : ℕ → ℕ) where
   pub was_sent : (events : List EventAt) → HaveNumbers numbers events → (v : Datagram) → WasSentByLine events v → Contains (sent numbers (steps_of_texts events)) v
   was_sent events numbered v w =
       let now : List EventAt = w.e ∷ w.older in
-      let there : HaveNumbers numbers now = older_numbered numbers w.newer now (subst (HaveNumbers numbers) w.split numbered) in
+      let there : HaveNumbers numbers now = older_numbered numbers w.behind numbered in
       let deeds = deeds_at (hosting_at w.older w.e.place) w.line in
       let by = open_sends (hosting_at w.older w.e.place).host (host_at numbers (steps_of_texts w.older) w.e.place) deeds v (texts_are_sessions numbers w.older there.1 w.e.place) w.out in
       let here : Contains (sent numbers (steps_of_texts now)) v = subst (λ (e : TextEvent). Contains (sent numbers (steps_then 0 w.e.place (deeds_of_event e (hosting_at w.older w.e.place)) (steps_of_texts w.older))) v) (sym w.takes)
       (sent_then numbers 0 w.e.place deeds (steps_of_texts w.older) v by) in
-      let front = texts_split w.newer now in
-      subst (λ (s : List Step). Contains (sent numbers s) v) (sym (ap steps_of_texts w.split ∙ front.1)) (sent_longer numbers front.0 (steps_of_texts now) v here)
+      sent_later member numbers v (texts_behind w.behind) here
 
   -- ---- what was drawn was said
 

@@ -7,9 +7,11 @@ use Rattle.wb_dialog.specs.Dialog.{says_line}
 use Rattle.wb_dialog.specs.Hosting.{Hosting}
 use Rattle.wb_laws_sessions.specs.Sessions.{Step, after_deeds, host_at, steps_then}
 use Rattle.wb_laws_sessions.specs.Members.{Deed}
-use Rattle.wb_laws_sessions.proofs.Several.{after_all, number_at, then_split}
+use Rattle.wb_laws_sessions.proofs.Several.{after_all, number_at}
 use Rattle.wb_laws_hosts.specs.Texts.{TextEvent, EventAt, HaveNumbers, IsMemberAt, IsNumbered, Starts, Takes, TextsAreSessions, deeds_of_event, hosting_after_event, hosting_at, steps_of_texts}
 use Rattle.wb_laws_hosts.proofs.Lines.{line_after}
+use Rattle.wb_laws_machines.proofs.Traces.{behind_both, happen_behind}
+use Rattle.wb_laws_machines.specs.Machines.{part, whole, ◌⊑◌}
 
 event_after : (member : Opened) (e : TextEvent) (s : Hosting) → IsNumbered member.is.number e s → IsMemberAt member s.host → IsMemberAt (after_deeds (deeds_of_event e s) member) (hosting_after_event e s).host
 event_after member (Starts tuning) s numbered is = tt
@@ -44,13 +46,11 @@ texts_are_sessions numbers (e ∷ older) numbered i = one_event numbers e older 
 
 -- ---- a part of the events
 
-pub older_numbered : (numbers : ℕ → ℕ) (newer older : List EventAt) → HaveNumbers numbers (newer ++ older) → HaveNumbers numbers older
-older_numbered numbers [] older numbered = numbered
-older_numbered numbers (e ∷ newer) older numbered = older_numbered numbers newer older numbered.1
+pub older_numbered : (numbers : ℕ → ℕ) {older events : List EventAt} → older ⊑ events → HaveNumbers numbers events → HaveNumbers numbers older
+older_numbered numbers whole numbered = numbered
+older_numbered numbers (part behind) numbered = older_numbered numbers behind numbered.1
 
-pub texts_split : (newer older : List EventAt) → (front : List Step) × (steps_of_texts (newer ++ older) ≡ front ++ steps_of_texts older)
-texts_split [] older = ([], refl)
-texts_split (e ∷ newer) older =
-    let rest = texts_split newer older in
-    let one = then_split 0 e.place (deeds_of_event e.event (hosting_at (newer ++ older) e.place)) (steps_of_texts (newer ++ older)) in
-    (one.0 ++ rest.0, one.1 ∙ ap (λ (s : List Step). one.0 ++ s) rest.1 ∙ sym (append_assoc one.0 rest.0 (steps_of_texts older)))
+pub texts_behind : {older events : List EventAt} → older ⊑ events → steps_of_texts older ⊑ steps_of_texts events
+texts_behind whole = whole
+texts_behind (part {newer = newer} {e = e} behind) =
+    behind_both (texts_behind behind) (happen_behind 0 e.place (deeds_of_event e.event (hosting_at newer e.place)) (steps_of_texts newer))

@@ -28,6 +28,7 @@ use Rattle.wb_laws_sessions.specs.Members.{Does}
 use Rattle.wb_laws_machines.specs.Honest.{AreApart}
 use Rattle.wb_laws_hosts.specs.Telling.{told_at}
 use Rattle.wb_laws_hosts.specs.Texts.{CameOut, TextEvent, EventAt, HaveNumbers, Starts, Takes, deeds_at, hosting_at, sent_for_line, steps_of_texts}
+use Rattle.wb_laws_machines.specs.Machines.{◌⊑◌}
 
 -- this member is open, whether its driver drives it or it is self-managing
 abbrev pub IsOpenHost : Option Host → Opened → Type 0
@@ -119,10 +120,9 @@ BatchesCountNoClash =
 
 -- at some point a line is handed in that sends this
 pub record WasSentByLine (events : List EventAt) (v : Datagram) : Type 0 where
-  pub newer : List EventAt
   pub e : EventAt
   pub older : List EventAt
-  pub split : events ≡ newer ++ e ∷ older
+  pub behind : (e ∷ older) ⊑ events
   pub line : InputLine
   pub takes : e.event ≡ Takes line
   pub out : Contains (sent_for_line (hosting_at older e.place) line) v
@@ -172,9 +172,9 @@ pub record AskOf (page : PageId) (width height : ℕ) (report gaps show view : I
 -- they are self-managing or not, and whichever process started anew between.
 abbrev pub ReportsTellShowsAt : List EventAt → Type 0
 ReportsTellShowsAt events =
-    (newer older newer' older' : List EventAt) (i j : ℕ)
+    (older older' : List EventAt) (i j : ℕ)
     (page : PageId) (width height : ℕ) (report gaps show view : InputLine)
-    → events ≡ newer ++ older → events ≡ newer' ++ older'
+    → older ⊑ events → older' ⊑ events
     → AskOf page width height report gaps show view
     → prints_at older i report ≡ prints_at older' j report
     → prints_at older i gaps ≡ gaps_text [] → prints_at older' j gaps ≡ gaps_text []

@@ -20,6 +20,7 @@ use Rattle.wb_dialog.specs.Dialog.{says_line}
 use Rattle.wb_dialog.specs.Hosting.{Host, Driven, Kept, Hosting, Reply, prints, denies, hosting_after, reply_of, unopened}
 use Rattle.wb_laws_sessions.specs.Sessions.{Step, host_at, sent_by_deeds, steps_then}
 use Rattle.wb_laws_sessions.specs.Members.{Deed, Does, Opens}
+use Rattle.wb_laws_machines.specs.Machines.{◌⊑◌}
 
 -- A process starts, and the one before it at its place is gone; or it is handed a line.
 pub data TextEvent : Type 0 where
@@ -145,10 +146,9 @@ sent_for_line s line = sent_at_host s.host (deeds_at s line)
 
 -- a datagram comes out: at some point a line is handed in for which its `send` line is printed
 pub record CameOut (events : List EventAt) (v : Datagram) : Type 0 where
-  pub newer : List EventAt
   pub e : EventAt
   pub older : List EventAt
-  pub split : events ≡ newer ++ e ∷ older
+  pub behind : (e ∷ older) ⊑ events
   pub line : InputLine
   pub takes : e.event ≡ Takes line
   pub out : Contains (map send_line (sent_for_line (hosting_at older e.place) line)) (send_line v)

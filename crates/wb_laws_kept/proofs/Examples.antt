@@ -17,8 +17,10 @@ use Rattle.wb_laws_kept.specs.Openings.{IsOpening, Opening}
 use Rattle.wb_laws_sessions.specs.Drawn.{WasHeld, drawn_at}
 use Rattle.wb_laws_kept.specs.Examples.{Forgets, Listens, Restarts, after_first, again, at, cut_off, deletes, first, forgotten, listening, numbers, once, opening, page, restarted, second, third, told, twice}
 use Rattle.wb_laws_kept.specs.Restarts.{IsWholeRecord, KnowTheirOwn, KnowsItsOwn, RecordsAreWhole}
-use Rattle.wb_laws_kept.specs.Sessions.{AreTaken, Begins, Call, CallAt, DrawopsWereHeld, Handed, WereHeld, kept_at, steps_of}
+use Rattle.wb_laws_kept.specs.Sessions.{AreTaken, At, DrawopsWereHeld, WereHeld, kept_at, steps_of}
 use Rattle.wb_laws_sessions.proofs.Sending.{one_of}
+use Rattle.wb_laws_kept.specs.Calls.{Begins, Call, Handed}
+use Rattle.wb_laws_machines.specs.Machines.{whole}
 
 is_opening : (seed moment : ℕ) → IsOpening (opening seed moment)
 is_opening seed moment = record { moments = (omega arith, tt); in_range = refl; small = omega arith }
@@ -44,7 +46,7 @@ one_given d x c = ⊎_elim (λ (e : Draw d ≡ Draw x). same e) (λ (n : Contain
   same : Draw d ≡ Draw x → d ≡ x
   same e = cc
 
-module _ (numbers : ℕ → ℕ) (older : List CallAt) (place : ℕ) where
+module _ (numbers : ℕ → ℕ) (older : List (At Call)) (place : ℕ) where
   -- what a start was given was held
   abbrev WasGiven : Call → Type 0
   WasGiven (Begins o given) = (d : DrawopValue) → Contains given (Draw d) → WasHeld numbers (steps_of numbers older) d
@@ -53,7 +55,7 @@ module _ (numbers : ℕ → ℕ) (older : List CallAt) (place : ℕ) where
   not_handed : (o : Opening) (given : List Datagram) (now : ℕ) (v : Datagram) → Begins o given ≡ Handed (Came now v) → ⊥
   not_handed o given now v e = cc
 
-  begun_held : (time : ℕ) (o : Opening) (given : List Datagram) → WasGiven (Begins o given) → WereHeld numbers older (record { time = time; place = place; call = Begins o given })
+  begun_held : (time : ℕ) (o : Opening) (given : List Datagram) → WasGiven (Begins o given) → WereHeld numbers older (record { time = time; place = place; event = Begins o given })
   begun_held time o given was = record { handed = λ now d e. absurd (not_handed o given now (Draw d) e); given = λ o' given' d e c. subst WasGiven e was d c }
 
   not_came : (now : ℕ) (page : PageId) (told : ℕ) (op : Op) (then : ℕ) (v : Datagram) → Handed (Added now page told op) ≡ Handed (Came then v) → ⊥
@@ -62,7 +64,7 @@ module _ (numbers : ℕ → ℕ) (older : List CallAt) (place : ℕ) where
   not_begun : (now : ℕ) (page : PageId) (told : ℕ) (op : Op) (o : Opening) (given : List Datagram) → Handed (Added now page told op) ≡ Begins o given → ⊥
   not_begun now page told op o given e = cc
 
-  added_held : (time now : ℕ) (page : PageId) (told : ℕ) (op : Op) → WereHeld numbers older (record { time = time; place = place; call = Handed (Added now page told op) })
+  added_held : (time now : ℕ) (page : PageId) (told : ℕ) (op : Op) → WereHeld numbers older (record { time = time; place = place; event = Handed (Added now page told op) })
   added_held time now page told op = record { handed = λ then d e. absurd (not_came now page told op then (Draw d) e); given = λ o given d e. absurd (not_begun now page told op o given e) }
 
   abbrev HasWhole : Call → Type 0
@@ -70,14 +72,14 @@ module _ (numbers : ℕ → ℕ) (older : List CallAt) (place : ℕ) where
   HasWhole (Handed line) = Unit {0}
 
   begun_whole : (o : Opening) (given : List Datagram) → HasWhole (Begins o given) → (o' : Opening) (given' : List Datagram) → Begins o given ≡ Begins o' given' → IsWholeRecord numbers older place o' given'
-  begun_whole o given whole o' given' e = subst HasWhole e whole
+  begun_whole o given has o' given' e = subst HasWhole e has
 
 none_given : (d : DrawopValue) → Contains [] (Draw d) → WasHeld numbers [] d
 none_given d c = absurd (Contains-none (Draw d) c)
 
 first_held : (d : DrawopValue) → Contains (Draw first ∷ []) (Draw d) → WasHeld numbers (steps_of numbers once) d
 unfolding started word_of after_word words.started report_of gaps_of pages_of near_names
-first_held d c = subst (WasHeld numbers (steps_of numbers once)) (one_given first d c) (record { newer = []; older = _; split = refl; place = 0; held = (0, first_of_one, refl) }) where
+first_held d c = subst (WasHeld numbers (steps_of numbers once)) (one_given first d c) (record { older = _; behind = whole; place = 0; held = (0, first_of_one, refl) }) where
   first_of_one : 0 < 1
   first_of_one = omega arith
 
@@ -164,7 +166,7 @@ once_last : last_number page (kept_at numbers once 0).host ≡ 1
 unfolding started word_of after_word words.started report_of gaps_of pages_of near_names
 once_last = refl
 
-module _ (older : List CallAt) where
+module _ (older : List (At Call)) where
   abbrev Knows : Call → Type 0
   Knows (Handed (Added now drawn_on time op)) = KnowsItsOwn numbers older 0 drawn_on
   Knows (Handed (Came now v)) = Unit {0}
@@ -217,7 +219,7 @@ came_held = record { handed = λ now d e. absurd (no_draw now d e); given = λ o
 
 first_held_twice : (d : DrawopValue) → Contains (Draw first ∷ []) (Draw d) → WasHeld numbers (steps_of numbers twice) d
 unfolding started word_of after_word words.started report_of gaps_of pages_of near_names
-first_held_twice d c = subst (WasHeld numbers (steps_of numbers twice)) (one_given first d c) (record { newer = []; older = _; split = refl; place = 0; held = (0, first_of_two, refl) }) where
+first_held_twice d c = subst (WasHeld numbers (steps_of numbers twice)) (one_given first d c) (record { older = _; behind = whole; place = 0; held = (0, first_of_two, refl) }) where
   first_of_two : 0 < 2
   first_of_two = omega arith
 

@@ -18,12 +18,15 @@ use Rattle.wb_policy.specs.Policy.{Policy}
 use Rattle.wb_keeping.proofs.EachLine.{DoesEach, Each, OfPolicy, each_both, ends_each, hears_each, then_each, timed_each}
 use Rattle.wb_laws_sessions.specs.Drawn.{AreHonest, WasHeld, drawn_at}
 use Rattle.wb_laws_sessions.specs.Sessions.{Step, host_at, steps_then}
-use Rattle.wb_laws_sessions.specs.Members.{Deed, Does, Opens}
+use Rattle.wb_laws_sessions.specs.Members.{Deed, Does, member, Opens}
 use Rattle.wb_laws_sessions.proofs.Several.{number_at}
 use Rattle.wb_laws_sessions.proofs.Honest.{IsGiven, call_is_honest, drawing_is_honest, given_is_honest, opening_is_honest}
 use Rattle.wb_laws_kept.specs.Restarts.{KeptAreHonest, KnowTheirOwn, KnowsItsOwn}
-use Rattle.wb_laws_kept.specs.Sessions.{AreTaken, Begins, Call, CallAt, DrawopsWereHeld, Handed, IsTaken, WereHeld, given_lines, kept_at, lines_of_call, opens_of_call, steps_of}
+use Rattle.wb_laws_kept.specs.Sessions.{AreTaken, At, DrawopsWereHeld, WereHeld, kept_at, steps_of}
 use Rattle.wb_laws_kept.proofs.Steps.{kept_is_session}
+use Rattle.wb_laws_kept.specs.Calls.{Begins, Call, Handed, IsTaken, given_lines, lines_of_call, opens_of_call}
+use Rattle.wb_laws_machines.specs.Machines.{whole, part}
+use Rattle.wb_laws_machines.proofs.Traces as traces
 
 -- ---- lines that draw nothing
 
@@ -63,7 +66,7 @@ module _ (comes : DrawopValue → Type 0) where
 
 module _ (numbers : ℕ → ℕ) where
   held_later : (e : Step) (older : List Step) (d : DrawopValue) → WasHeld numbers older d → WasHeld numbers (e ∷ older) d
-  held_later e older d w = record { newer = e ∷ w.newer; older = w.older; split = ap (λ (s : List Step). e ∷ s) w.split; place = w.place; held = w.held }
+  held_later e older d w = traces.held_later member numbers d (part whole) w
 
   module _ (time place : ℕ) (comes : DrawopValue → Type 0) where
     abbrev step : Line → Step
@@ -119,14 +122,14 @@ module _ (numbers : ℕ → ℕ) where
 
   -- ---- calls
 
-  module _ (time place : ℕ) (older : List CallAt) (honest : AreHonest numbers (steps_of numbers older)) where
+  module _ (time place : ℕ) (older : List (At Call)) (honest : AreHonest numbers (steps_of numbers older)) where
     abbrev k : Keeping
     k = kept_at numbers older place
 
     abbrev deeds : Call → List Deed
     deeds call = opens_of_call call ++ map Does (lines_of_call call k)
 
-    call_honest : (call : Call) → IsTaken call k → WereHeld numbers older (record { time = time; place = place; call = call })
+    call_honest : (call : Call) → IsTaken call k → WereHeld numbers older (record { time = time; place = place; event = call })
         → ((now : ℕ) (page : PageId) (told : ℕ) (op : Op) → call ≡ Handed (Added now page told op) → KnowsItsOwn numbers older place page) → AreHonest numbers (steps_then time place (deeds call) (steps_of numbers older))
     call_honest (Handed (Came now v)) taken were knows =
         lines_honest time place (λ d. v ≡ Draw d) (came now v (sees k.host) k.policy).lines (steps_of numbers older) honest (λ d is. were.handed now d (ap (λ (w : Datagram). Handed (Came now w)) is)) (came_given (λ d. v ≡ Draw d) now v (λ d is. is) (sees k.host) k.policy)
@@ -144,13 +147,13 @@ module _ (numbers : ℕ → ℕ) where
         (each_both (IsGiven (λ d. Contains given (Draw d))) (ticks_at o.moments) (expand (given_lines first given) first) (moments_given (λ d. Contains given (Draw d)) o.moments)
         (record_given (λ d. Contains given (Draw d)) (present first.host) given first (λ d c. c)))
 
-  pub all_honest : (calls : List CallAt) → AreTaken numbers calls → DrawopsWereHeld numbers calls → KnowTheirOwn numbers calls → AreHonest numbers (steps_of numbers calls)
+  pub all_honest : (calls : List (At Call)) → AreTaken numbers calls → DrawopsWereHeld numbers calls → KnowTheirOwn numbers calls → AreHonest numbers (steps_of numbers calls)
   all_honest [] taken were know = tt
-  all_honest (e ∷ older) taken were know = call_honest e.time e.place older (all_honest older taken.1 were.1 know.1) e.call taken.0 (record { handed = were.0.handed; given = were.0.given }) know.0
+  all_honest (e ∷ older) taken were know = call_honest e.time e.place older (all_honest older taken.1 were.1 know.1) e.event taken.0 (record { handed = were.0.handed; given = were.0.given }) know.0
 
 pub kept_are_honest : KeptAreHonest
 kept_are_honest numbers calls taken were know = all_honest numbers calls taken were know
 
 -- a self-managing member has the number of its place
-pub number_of_kept : (numbers : ℕ → ℕ) (calls : List CallAt) (i : ℕ) → (kept_at numbers calls i).host.is.number ≡ numbers i
+pub number_of_kept : (numbers : ℕ → ℕ) (calls : List (At Call)) (i : ℕ) → (kept_at numbers calls i).host.is.number ≡ numbers i
 number_of_kept numbers calls i = ap (λ (h : Opened). h.is.number) (sym (kept_is_session numbers calls i)) ∙ number_at numbers (steps_of numbers calls) i

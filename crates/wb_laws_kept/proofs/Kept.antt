@@ -19,8 +19,6 @@ use Rattle.wb_laws_sessions.specs.Members.{new_where, Does, member}
 use Rattle.wb_laws_sessions.proofs.Honest.{IsGiven}
 use Rattle.wb_laws_sessions.proofs.Drawn.{new_is}
 use Rattle.wb_laws_kept.specs.Openings.{opened}
-use Rattle.wb_laws_kept.specs.Restarts.{drawops_in}
-use Rattle.wb_laws_kept.specs.Sessions.{Begins, Call, Handed, given_lines}
 use Rattle.wb_laws_kept.proofs.Steps.{call_is}
 use Rattle.wb_laws_kept.proofs.Honest.{came_given, moments_given, of_policy, record_given, ticks_given, timed_given}
 use Rattle.wb_laws_machines.specs.Honest.{IsLawful}
@@ -29,6 +27,7 @@ use Rattle.wb_laws_machines.specs.Machines.{AreAllTaken, drawn_by_all, gained_by
 use Rattle.wb_laws_machines.specs.Maps.{IsMap}
 use Rattle.wb_laws_machines.proofs.Mapped.{lawful_over}
 use Rattle.wb_laws_sessions.proofs.Members.{member_is_lawful, new_few}
+use Rattle.wb_laws_kept.specs.Calls.{Begins, Call, drawops_in, given_lines, Handed}
 
 -- ---- lines that draw nothing
 

@@ -37,8 +37,9 @@ use Rattle.wb_keeping.proofs.EachLine.{Each, OfPolicy, each_both, ends_each, lea
 use Rattle.wb_keeping.proofs.EachStep.{either}
 use Rattle.wb_laws_kept.specs.Listening.{HasNotBegun, IsHeardWhole, ListeningTells, TellsMark}
 use Rattle.wb_laws_kept.specs.Openings.{opened}
-use Rattle.wb_laws_kept.specs.Sessions.{Begins, Call, CallAt, Handed, after_call, given_lines, kept_at}
+use Rattle.wb_laws_kept.specs.Sessions.{At, kept_at}
 use Rattle.wb_laws_kept.proofs.Honest.{number_of_kept}
+use Rattle.wb_laws_kept.specs.Calls.{Begins, Call, Handed, after_call, given_lines}
 
 -- ---- marks of one source
 
@@ -266,26 +267,26 @@ call_own page (Begins o given) k own =
     (all_know page (given_lines first given) first start).own
 
 module _ (numbers : ℕ → ℕ) (page : PageId) where
-  own_at : (calls : List CallAt) (i : ℕ) → HeardItsOwn (kept_at numbers calls i).host
+  own_at : (calls : List (At Call)) (i : ℕ) → HeardItsOwn (kept_at numbers calls i).host
   own_at [] i = λ on. tt
   own_at (e ∷ older) i = by (nat_eq e.place i) (own_at older i) where
-    by : (b : Bool) → HeardItsOwn (kept_at numbers older i).host → HeardItsOwn (cond b (after_call e.call (kept_at numbers older i)) (kept_at numbers older i)).host
-    by true own = call_own page e.call (kept_at numbers older i) own
+    by : (b : Bool) → HeardItsOwn (kept_at numbers older i).host → HeardItsOwn (cond b (after_call e.event (kept_at numbers older i)) (kept_at numbers older i)).host
+    by true own = call_own page e.event (kept_at numbers older i) own
     by false own = own
 
   -- a member knows no lesser number of its own while its program goes on
-  goes_on : (newer older : List CallAt) (i : ℕ) → HasNotBegun newer i → last_number page (kept_at numbers older i).host ≤ last_number page (kept_at numbers (newer ++ older) i).host
+  goes_on : (newer older : List (At Call)) (i : ℕ) → HasNotBegun newer i → last_number page (kept_at numbers older i).host ≤ last_number page (kept_at numbers (newer ++ older) i).host
   goes_on [] older i none = omega arith
   goes_on (e ∷ newer) older i none = by (nat_eq e.place i) refl (goes_on newer older i (λ x o given c. none x o given (Contains-there e x newer c))) where
     k : Keeping
     k = kept_at numbers (newer ++ older) i
 
-    after : (call : Call) → e.place ≡ i → e.call ≡ call → last_number page k.host ≤ last_number page (after_call call k).host
+    after : (call : Call) → e.place ≡ i → e.event ≡ call → last_number page k.host ≤ last_number page (after_call call k).host
     after (Begins o given) here is = absurd (none e o given (Contains-here e newer) here is)
     after (Handed line) here is = (one_knows page line k (own_at (newer ++ older) i)).most
 
-    by : (b : Bool) → nat_eq e.place i ≡ b → last_number page (kept_at numbers older i).host ≤ last_number page k.host → last_number page (kept_at numbers older i).host ≤ last_number page (cond b (after_call e.call k) k).host
-    by true is rest = let one = after e.call (eqb-true e.place i is) refl in omega (arith, rest, one)
+    by : (b : Bool) → nat_eq e.place i ≡ b → last_number page (kept_at numbers older i).host ≤ last_number page k.host → last_number page (kept_at numbers older i).host ≤ last_number page (cond b (after_call e.event k) k).host
+    by true is rest = let one = after e.event (eqb-true e.place i is) refl in omega (arith, rest, one)
     by false is rest = rest
 
 -- ---- a mark of a report
@@ -389,7 +390,7 @@ listening_tells numbers newer older e now v page m called listens are tells mine
     let k = kept_at numbers older e.place in
     let number : numbers e.place ≡ k.host.is.number = sym (number_of_kept numbers older e.place) in
     let told : m.high ≤ last_number page (after_doing (came now v) k).host = it_tells page now k (own_at numbers page older e.place) (lt-ltb now k.policy.ready listens) m (mine ∙ number) low v are (subst (λ (me : ℕ). TellsMark v me page m) number tells) whole in
-    let here : m.high ≤ last_number page (after_call e.call k).host = subst (λ (c : Call). m.high ≤ last_number page (after_call c k).host) (sym called) told in
-    let then : m.high ≤ last_number page (kept_at numbers (e ∷ older) e.place).host = subst (λ (b : Bool). m.high ≤ last_number page (cond b (after_call e.call k) k).host) (sym (eq-eqb e.place e.place refl)) here in
+    let here : m.high ≤ last_number page (after_call e.event k).host = subst (λ (c : Call). m.high ≤ last_number page (after_call c k).host) (sym called) told in
+    let then : m.high ≤ last_number page (kept_at numbers (e ∷ older) e.place).host = subst (λ (b : Bool). m.high ≤ last_number page (cond b (after_call e.event k) k).host) (sym (eq-eqb e.place e.place refl)) here in
     let later = goes_on numbers page newer (e ∷ older) e.place none in
     omega (arith, then, later)

@@ -1,5 +1,5 @@
 -- Each mark that a self-managing member sends is of a drawop that it holds.
-use Rattle.std.proofs.Common.{◌≡◌, ◌⊎◌, ℕ, ◌<◌, ◌≤◌, Bool, true, false, cond, List, [], ◌∷◌, ◌++◌, ◌∙◌, Option, Some, None, ap, append_assoc, arith, eq-eqb, inl, inr, length, map, refl, subst, sym, ⊎_elim}
+use Rattle.std.proofs.Common.{◌≡◌, ◌⊎◌, ℕ, ◌<◌, ◌≤◌, Bool, true, false, cond, List, [], ◌∷◌, ◌++◌, ◌∙◌, Option, Some, None, ap, arith, eq-eqb, inl, inr, length, map, refl, subst, sym, ⊎_elim}
 use Rattle.std.specs.Prelude.{Contains, filter, nat_eq, take}
 use Rattle.std.specs.Option.{option_map}
 use Rattle.std.proofs.lemmas.List.Elements.{All-contains, Contains-append_cases, Contains-append_left, Contains-append_right}
@@ -43,14 +43,14 @@ use Rattle.wb_keeping.proofs.Wanted.{is_wanted_here, lines_wanted}
 use Rattle.wb_board.specs.Counts.{MAX_CELLS}
 use Rattle.wb_laws_sessions.specs.Drawn.{WasHeld}
 use Rattle.wb_laws_sessions.specs.Sessions.{Step, host_at, sent, sent_by_deeds, steps_then}
-use Rattle.wb_laws_sessions.specs.Members.{Deed, Does, after_deed, sent_by_deed}
+use Rattle.wb_laws_sessions.specs.Members.{after_deed, Deed, Does, member, sent_by_deed}
 use Rattle.wb_laws_sessions.proofs.Deeds.{Fits, fits_after}
 use Rattle.wb_laws_sessions.proofs.Drawn.{once_held_was_drawn}
 use Rattle.wb_laws_machines.proofs.Names.{holds_name, of_name}
 use Rattle.wb_laws_kept.specs.Openings.{Opening, opened}
 use Rattle.wb_laws_kept.specs.Restarts.{MarksWereDrawn}
-use Rattle.wb_laws_kept.specs.Sessions.{AreTaken, Begins, Call, CallAt, Handed, IsTaken, after_call, given_lines, kept_at, steps_of}
-use Rattle.wb_laws_kept.proofs.Agreeing.{steps_split}
+use Rattle.wb_laws_kept.specs.Sessions.{AreTaken, At, kept_at, steps_of}
+use Rattle.wb_laws_kept.proofs.Agreeing.{steps_behind}
 use Rattle.wb_laws_kept.proofs.Honest.{kept_are_honest}
 use Rattle.wb_laws_kept.proofs.Restarting.{line_grows}
 use Rattle.wb_laws_kept.specs.Kept.{deeds_of}
@@ -58,6 +58,9 @@ use Rattle.wb_laws_kept.proofs.Steps.{kept_is_session}
 use Rattle.wb_laws_sessions.proofs.Sending.{one_of}
 use Rattle.wb_laws_sessions.proofs.Several.{sent_performed}
 use Rattle.std.proofs.lemmas.Option.{same_Some}
+use Rattle.wb_laws_kept.specs.Calls.{Begins, Call, Handed, IsTaken, after_call, given_lines}
+use Rattle.wb_laws_machines.proofs.Traces.{held_later}
+use Rattle.wb_laws_machines.specs.Machines.{part, whole}
 
 -- ---- a report is of what is held
 
@@ -295,11 +298,11 @@ call_fits (Begins o given) k j taken fits =
       first_fits number o small = lines_fit (ticks_at o.moments) (opened_with o.constants number o.cells o.seed) (record { few = omega arith; small = small })
 
 module _ (numbers : ℕ → ℕ) where
-  kept_fits : (calls : List CallAt) → AreTaken numbers calls → (i : ℕ) → Fits (kept_at numbers calls i).host
+  kept_fits : (calls : List (At Call)) → AreTaken numbers calls → (i : ℕ) → Fits (kept_at numbers calls i).host
   kept_fits [] taken i = record { few = omega arith; small = omega arith }
   kept_fits (e ∷ older) taken i = by (nat_eq e.place i) (kept_fits older taken.1 i) where
-    by : (b : Bool) → Fits (kept_at numbers older i).host → Fits (cond b (after_call e.call (kept_at numbers older i)) (kept_at numbers older i)).host
-    by true fits = call_fits e.call (kept_at numbers older i) (kept_at numbers older e.place) taken.0 fits
+    by : (b : Bool) → Fits (kept_at numbers older i).host → Fits (cond b (after_call e.event (kept_at numbers older i)) (kept_at numbers older i)).host
+    by true fits = call_fits e.event (kept_at numbers older i) (kept_at numbers older e.place) taken.0 fits
     by false fits = fits
 
   -- ---- what deeds send
@@ -344,31 +347,29 @@ module _ (numbers : ℕ → ℕ) where
 
   -- ---- sessions
 
-  abbrev WasHeldAs : List CallAt → NameValue → Type 0
+  abbrev WasHeldAs : List (At Call) → NameValue → Type 0
   WasHeldAs calls n = (d : DrawopValue) × WasHeld numbers (steps_of numbers calls) d × (d.name ≡ n)
 
-  marks_were_held : (calls : List CallAt) → AreTaken numbers calls → (v : Datagram) (page : PageId) (m : MarkValue) → Contains (sent numbers (steps_of numbers calls)) v → Contains (marks_in page v) m → WasHeldAs calls (name_of page m.source m.high)
+  marks_were_held : (calls : List (At Call)) → AreTaken numbers calls → (v : Datagram) (page : PageId) (m : MarkValue) → Contains (sent numbers (steps_of numbers calls)) v → Contains (marks_in page v) m → WasHeldAs calls (name_of page m.source m.high)
   marks_were_held [] taken v page m c told = absurd (Contains-none v c)
   marks_were_held (e ∷ older) taken v page m c told = ⊎_elim
       (λ (before : Contains (sent numbers (steps_of numbers older)) v). earlier (marks_were_held older taken.1 v page m before told))
-      (λ (now : Contains (sent_by_deeds (deeds_of e.call k) (host_at numbers (steps_of numbers older) e.place)) v). at_once now)
-      (sent_then e.time e.place (deeds_of e.call k) (steps_of numbers older) v c) where
+      (λ (now : Contains (sent_by_deeds (deeds_of e.event k) (host_at numbers (steps_of numbers older) e.place)) v). at_once now)
+      (sent_then e.time e.place (deeds_of e.event k) (steps_of numbers older) v c) where
         k : Keeping
         k = kept_at numbers older e.place
 
         earlier : WasHeldAs older (name_of page m.source m.high) → WasHeldAs (e ∷ older) (name_of page m.source m.high)
-        earlier (d, w, is) =
-            let s = steps_split numbers (e ∷ []) older in
-            (d, record { newer = s.0 ++ w.newer; older = w.older; split = s.1 ∙ ap (λ (steps : List Step). s.0 ++ steps) w.split ∙ sym (append_assoc s.0 w.newer w.older); place = w.place; held = w.held }, is)
+        earlier (d, w, is) = (d, held_later member numbers d (steps_behind numbers (part {newer = older} {e = e} whole)) w, is)
 
-        same : (after_call e.call k).host ≡ host_at numbers (steps_of numbers (e ∷ older)) e.place
-        same = ap (λ (b : Bool). (cond b (after_call e.call k) k).host) (sym (eq-eqb e.place e.place refl)) ∙ sym (kept_is_session numbers (e ∷ older) e.place)
+        same : (after_call e.event k).host ≡ host_at numbers (steps_of numbers (e ∷ older)) e.place
+        same = ap (λ (b : Bool). (cond b (after_call e.event k) k).host) (sym (eq-eqb e.place e.place refl)) ∙ sym (kept_is_session numbers (e ∷ older) e.place)
 
-        at_once : Contains (sent_by_deeds (deeds_of e.call k) (host_at numbers (steps_of numbers older) e.place)) v → WasHeldAs (e ∷ older) (name_of page m.source m.high)
+        at_once : Contains (sent_by_deeds (deeds_of e.event k) (host_at numbers (steps_of numbers older) e.place)) v → WasHeldAs (e ∷ older) (name_of page m.source m.high)
         at_once now =
-            let tells = call_tells e.call k taken.0 (kept_fits older taken.1 e.place) v (subst (λ (h : Opened). Contains (sent_by_deeds (deeds_of e.call k) h) v) (kept_is_session numbers older e.place) now) in
-            let x = of_name (after_call e.call k).host.is.held (name_of page m.source m.high) (tells page m told) in
-            (x.0, record { newer = []; older = steps_of numbers (e ∷ older); split = refl; place = e.place; held = subst (λ (h : Opened). Contains h.is.held x.0) same x.1 }, x.2)
+            let tells = call_tells e.event k taken.0 (kept_fits older taken.1 e.place) v (subst (λ (h : Opened). Contains (sent_by_deeds (deeds_of e.event k) h) v) (kept_is_session numbers older e.place) now) in
+            let x = of_name (after_call e.event k).host.is.held (name_of page m.source m.high) (tells page m told) in
+            (x.0, record { older = steps_of numbers (e ∷ older); behind = whole; place = e.place; held = subst (λ (h : Opened). Contains h.is.held x.0) same x.1 }, x.2)
 
 pub marks_were_drawn : MarksWereDrawn
 marks_were_drawn numbers calls taken were know v page m c told =

@@ -24,7 +24,7 @@ use Rattle.wb_policy.specs.Policy.{Policy}
 use Rattle.wb_keeping.specs.Views.{View, holds, is_asked, is_full}
 use Rattle.wb_keeping.proofs.EachLine.{Each, each_both, learned_each}
 use Rattle.wb_laws_machines.proofs.Outcomes.{Found, found}
-use Rattle.wb_laws_kept.specs.Restarts.{drawops_in}
+use Rattle.wb_laws_kept.specs.Calls.{drawops_in}
 use Rattle.wb_laws_kept.proofs.Honest.{came_given, of_policy, timed_given}
 use Rattle.wb_laws_sessions.proofs.Honest.{IsGiven}
 use Rattle.wb_laws_sessions.proofs.Sending.{one_draw}

@@ -25,12 +25,13 @@ use Rattle.wb_laws_sessions.proofs.Honest.{IsGiven, given_draws_none}
 use Rattle.wb_laws_machines.proofs.Names.{at_most_highest}
 use Rattle.wb_laws_machines.proofs.Outcomes.{with_more}
 use Rattle.wb_laws_sessions.proofs.Several.{number_at}
-use Rattle.wb_laws_kept.specs.Restarts.{IsWholeRecord, KnowTheirOwn, KnowsItsOwn, RecordedReportsTellAgreement, RecordsAreWhole, WholeRecordsTell, drawops_in}
-use Rattle.wb_laws_kept.specs.Sessions.{AreTaken, Begins, Call, CallAt, DrawopsWereHeld, Handed, after_call, given_lines, kept_at, steps_of}
+use Rattle.wb_laws_kept.specs.Restarts.{IsWholeRecord, KnowsItsOwn, KnowTheirOwn, RecordedReportsTellAgreement, RecordsAreWhole, WholeRecordsTell}
+use Rattle.wb_laws_kept.specs.Sessions.{AreTaken, At, DrawopsWereHeld, kept_at, steps_of}
 use Rattle.wb_laws_kept.proofs.Agreeing.{kept_reports_tell_agreement}
 use Rattle.wb_laws_kept.proofs.Honest.{all_honest, moments_given, record_given}
 use Rattle.wb_laws_kept.proofs.Replaying.{Among, MeanOne, call_stays, lines_stay, none, replayed}
 use Rattle.wb_laws_kept.proofs.Steps.{kept_is_session}
+use Rattle.wb_laws_kept.specs.Calls.{after_call, Begins, Call, drawops_in, given_lines, Handed}
 
 -- ---- a line keeps what is held
 
@@ -86,10 +87,10 @@ module _ (numbers : ℕ → ℕ) where
 
   -- ---- calls
 
-  abbrev Own : List CallAt → Type 0
+  abbrev Own : List (At Call) → Type 0
   Own calls = (i : ℕ) (d : DrawopValue) → Contains (drawn_at numbers (steps_of numbers calls) i) d → Contains (kept_at numbers calls i).host.is.held d
 
-  knows : (older : List CallAt) → AreHonest numbers (steps_of numbers older) → Own older → (i : ℕ) (page : PageId) → KnowsItsOwn numbers older i page
+  knows : (older : List (At Call)) → AreHonest numbers (steps_of numbers older) → Own older → (i : ℕ) (page : PageId) → KnowsItsOwn numbers older i page
   knows older honest own i page d c here =
       let host : Opened = (kept_at numbers older i).host in
       let top : d.name.seq ≤ highest d.name.page d.name.source host.is.held = at_most_highest host.is.held d (own i d c) in
@@ -97,9 +98,9 @@ module _ (numbers : ℕ → ℕ) where
       let le : d.name.seq ≤ highest page host.is.number host.is.held = subst (λ (s : ℕ). d.name.seq ≤ highest page s host.is.held) source (subst (λ (p : PageId). d.name.seq ≤ highest p d.name.source host.is.held) here top) in
       omega (arith, le)
 
-  module _ (apart : AreApart numbers) (time place : ℕ) (older : List CallAt) (honest : AreHonest numbers (steps_of numbers older)) (own : Own older) where
-    abbrev e : Call → CallAt
-    e call = record { time = time; place = place; call = call }
+  module _ (apart : AreApart numbers) (time place : ℕ) (older : List (At Call)) (honest : AreHonest numbers (steps_of numbers older)) (own : Own older) where
+    abbrev e : Call → At Call
+    e call = record { time = time; place = place; event = call }
 
     handed_holds : (line : KeptLine) → Own (e (Handed line) ∷ older)
     handed_holds line i d c =
@@ -166,18 +167,18 @@ module _ (numbers : ℕ → ℕ) where
     call_holds (Handed line) whole were = handed_holds line
     call_holds (Begins o given) whole were = begun_holds o given (whole o given refl) (λ d c. were o given d refl c)
 
-  record Are (calls : List CallAt) : Type 0 where
+  record Are (calls : List (At Call)) : Type 0 where
     know : KnowTheirOwn numbers calls
     own : Own calls
 
-  all_are : (calls : List CallAt) → AreApart numbers → AreTaken numbers calls → DrawopsWereHeld numbers calls → RecordsAreWhole numbers calls → Are calls
+  all_are : (calls : List (At Call)) → AreApart numbers → AreTaken numbers calls → DrawopsWereHeld numbers calls → RecordsAreWhole numbers calls → Are calls
   all_are [] apart taken were whole = record { know = tt; own = λ i d c. absurd (Contains-none d c) }
   all_are (e ∷ older) apart taken were whole =
       let rest = all_are older apart taken.1 were.1 whole.1 in
       let honest : AreHonest numbers (steps_of numbers older) = all_honest numbers older taken.1 were.1 rest.know in
       record {
         know = (λ now page time op is. knows older honest rest.own e.place page, rest.know);
-        own = call_holds apart e.time e.place older honest rest.own e.call whole.0 were.0.given;
+        own = call_holds apart e.time e.place older honest rest.own e.event whole.0 were.0.given;
       }
 
 pub whole_records_tell : WholeRecordsTell

@@ -11,7 +11,8 @@ use Rattle.wb_keeping.specs.Laws.{Added, Came}
 use Rattle.wb_laws_kept.specs.Openings.{Opening}
 use Rattle.wb_laws_sessions.specs.Drawn.{drawn_at}
 use Rattle.wb_laws_kept.specs.Restarts.{KnowTheirOwn, RecordsAreWhole}
-use Rattle.wb_laws_kept.specs.Sessions.{AreTaken, Begins, Call, CallAt, DrawopsWereHeld, Handed, steps_of}
+use Rattle.wb_laws_kept.specs.Sessions.{AreTaken, At, DrawopsWereHeld, steps_of}
+use Rattle.wb_laws_kept.specs.Calls.{Begins, Call, Handed}
 
 abbrev pub page : PageId
 page = record { creator = 10; number = 1 }
@@ -32,8 +33,8 @@ opening seed moment = record {
   listen = 0;
 }
 
-abbrev pub at : ℕ → Call → CallAt
-at time call = record { time = time; place = 0; call = call }
+abbrev pub at : ℕ → Call → At Call
+at time call = record { time = time; place = 0; event = call }
 
 abbrev pub first : DrawopValue
 first = record { name = name_of page 10 1; time = 5; op = deletes }
@@ -42,13 +43,13 @@ abbrev pub second : DrawopValue
 second = record { name = name_of page 10 2; time = 6; op = deletes }
 
 -- It draws, starts anew with that in its record, and draws again. The newest is the first.
-abbrev pub once : List CallAt
+abbrev pub once : List (At Call)
 once =
     at 2 (Handed (Added 2 page 5 deletes))
     ∷ at 1 (Begins (opening 1 1) [])
     ∷ []
 
-abbrev pub restarted : List CallAt
+abbrev pub restarted : List (At Call)
 restarted =
     at 4 (Handed (Added 8 page 5 deletes))
     ∷ at 3 (Begins (opening 2 7) (Draw first ∷ []))
@@ -65,7 +66,7 @@ pub record Restarts : Type 0 where
 abbrev pub again : DrawopValue
 again = record { name = name_of page 10 1; time = 6; op = deletes }
 
-abbrev pub forgotten : List CallAt
+abbrev pub forgotten : List (At Call)
 forgotten =
     at 4 (Handed (Added 8 page 6 deletes))
     ∷ at 3 (Begins (opening 2 7) [])
@@ -87,16 +88,16 @@ third = record { name = name_of page 10 3; time = 6; op = deletes }
 abbrev pub listening : ℕ → ℕ → Opening
 listening seed moment = record (opening seed moment) { listen = 6000000 }
 
-abbrev pub twice : List CallAt
+abbrev pub twice : List (At Call)
 twice = at 3 (Handed (Added 3 page 5 deletes)) ∷ once
 
-abbrev pub cut_off : List CallAt
+abbrev pub cut_off : List (At Call)
 cut_off =
     at 5 (Handed (Came 9 (Session 11 5 page (record { source = 10; high = 2 } ∷ []) [])))
     ∷ at 4 (Begins (listening 2 7) (Draw first ∷ []))
     ∷ twice
 
-abbrev pub told : List CallAt
+abbrev pub told : List (At Call)
 told = at 6 (Handed (Added 6000008 page 5 deletes)) ∷ cut_off
 
 pub record Listens : Type 0 where

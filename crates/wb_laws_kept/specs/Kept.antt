@@ -7,10 +7,9 @@ use Rattle.wb_keeping.specs.Laws.{Added, Came, KeptLine, Ticked, Tuned}
 use Rattle.wb_keeping.specs.Performing.{Keeping, view_of}
 use Rattle.wb_policy.specs.Policy.{begun}
 use Rattle.wb_laws_sessions.specs.Members.{new_where, Deed, Does, unopened, member}
-use Rattle.wb_laws_kept.specs.Restarts.{drawop_in, drawops_in}
-use Rattle.wb_laws_kept.specs.Sessions.{Begins, Call, Handed, IsTaken, after_call, lines_of_call, opens_of_call}
 use Rattle.wb_laws_machines.specs.Machines.{Machine, sent_by_all}
 use Rattle.wb_laws_machines.specs.Maps.{Map}
+use Rattle.wb_laws_kept.specs.Calls.{after_call, Begins, Call, drawop_in, drawops_in, Handed, IsTaken, lines_of_call, opens_of_call}
 
 -- what its member does in a call
 abbrev pub deeds_of : Call → Keeping → List Deed

@@ -1,6 +1,7 @@
 pub mod Openings
+pub mod Calls
+pub mod Kept
 pub mod Sessions
 pub mod Restarts
-pub mod Kept
 pub mod Listening
 pub mod Examples

@@ -12,7 +12,8 @@ use Rattle.wb_names.specs.declared.name.TheConstants.{FIRST_FORGED}
 use Rattle.wb_keeping.specs.Laws.{Came}
 use Rattle.wb_keeping.specs.Performing.{Keeping}
 use Rattle.wb_laws_kept.specs.Openings.{Opening}
-use Rattle.wb_laws_kept.specs.Sessions.{Begins, CallAt, Handed, kept_at}
+use Rattle.wb_laws_kept.specs.Sessions.{At, kept_at}
+use Rattle.wb_laws_kept.specs.Calls.{Begins, Call, Handed}
 
 -- a session message or a page state of another has this mark of a page
 abbrev pub TellsMark : Datagram → ℕ → PageId → MarkValue → Type 0
@@ -40,18 +41,18 @@ abbrev pub IsHeardWhole : ℕ → Datagram → Keeping → Type 0
 IsHeardWhole now v k = has_room_for (heard_of now v k) (ticked now k.host) ≡ true
 
 -- the program at a place did not start by these calls
-abbrev pub HasNotBegun : List CallAt → ℕ → Type 0
-HasNotBegun calls i = (e : CallAt) (o : Opening) (given : List Datagram) → Contains calls e
-    → e.place ≡ i → e.call ≡ Begins o given → ⊥
+abbrev pub HasNotBegun : List (At Call) → ℕ → Type 0
+HasNotBegun calls i = (e : At Call) (o : Opening) (given : List Datagram) → Contains calls e
+    → e.place ≡ i → e.event ≡ Begins o given → ⊥
 
 -- A mark of its own number, below 2^31, that a member hears while it listens it knows until its
 -- program starts anew. The marks are in order, as those of each datagram that was read: else an
 -- earlier mark of the source could hide a greater one.
 abbrev pub ListeningTells : Type 0
 ListeningTells =
-    (numbers : ℕ → ℕ) (newer older : List CallAt) (e : CallAt)
+    (numbers : ℕ → ℕ) (newer older : List (At Call)) (e : At Call)
     (now : ℕ) (v : Datagram) (page : PageId) (m : MarkValue)
-    → e.call ≡ Handed (Came now v) → now < (kept_at numbers older e.place).policy.ready
+    → e.event ≡ Handed (Came now v) → now < (kept_at numbers older e.place).policy.ready
     → AreMarks (marks_in page v) → TellsMark v (numbers e.place) page m
     → m.source ≡ numbers e.place → m.high < FIRST_FORGED
     → IsHeardWhole now v (kept_at numbers older e.place) → HasNotBegun newer e.place

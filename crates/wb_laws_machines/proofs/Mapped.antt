@@ -11,7 +11,7 @@ use Rattle.wb_member.specs.Opened.{Opened}
 use Rattle.wb_laws_machines.specs.Honest.{IsLawful}
 use Rattle.wb_laws_machines.specs.Machines.{AreAllTaken, AreTaken, At, Machine, WasHeld, after_all, drawn_at, drawn_by_all, gained_by_all, happen, member_at, sent, sent_by_all, state_at, ◌⊑◌, whole, part}
 use Rattle.wb_laws_machines.specs.Maps.{HasSame, IsMap, Map, below}
-use Rattle.wb_laws_machines.proofs.Traces.{behind_both, happen_behind, there}
+use Rattle.wb_laws_machines.proofs.Traces.{behind_both, happen_behind, sent_later, there}
 
 -- ---- several events of a machine that keeps its laws
 
@@ -104,16 +104,12 @@ module _ {T F : Type 0} (low : Machine T F) (numbers : ℕ → ℕ) (time place 
       happen_drawn events (at e ∷ older) i false is
       ∙ ap (λ (b : Bool). cond b (low.drawn e (state_at low numbers older i) ++ drawn_at low numbers older i) (drawn_at low numbers older i)) is
 
-  pub sent_later : {older trace : List (At F)} (v : Datagram) → older ⊑ trace → Contains (sent low numbers older) v → Contains (sent low numbers trace) v
-  sent_later v whole c = c
-  sent_later v (part {newer = newer} {e = e} behind) c = Contains-append_right (low.sends e.event (state_at low numbers newer e.place)) (sent low numbers newer) v (sent_later v behind c)
-
   pub happen_sent : (events : List F) (older : List (At F)) (v : Datagram) → Contains (sent_by_all low events (state_at low numbers older place)) v
       → Contains (sent low numbers (happen time place events older)) v
   happen_sent [] older v c = absurd (Contains-none v c)
   happen_sent (e ∷ events) older v c = ⊎_elim
       (λ (now : Contains (low.sends e (state_at low numbers older place)) v).
-      sent_later v (happen_behind time place events (at e ∷ older)) (Contains-append_left (low.sends e (state_at low numbers older place)) (sent low numbers older) v now))
+      sent_later low numbers v (happen_behind time place events (at e ∷ older)) (Contains-append_left (low.sends e (state_at low numbers older place)) (sent low numbers older) v now))
       (λ (then : Contains (sent_by_all low events (low.after e (state_at low numbers older place))) v).
       happen_sent events (at e ∷ older) v (subst (λ (t : T). Contains (sent_by_all low events t) v) (sym (there low numbers (at e) older)) then))
       (Contains-append_cases (low.sends e (state_at low numbers older place)) (sent_by_all low events (low.after e (state_at low numbers older place))) v c)
@@ -187,7 +183,7 @@ module _ {S E T F : Type 0} {up : Machine S E} {low : Machine T F} {via : Map S 
         w.2,
       ))
       (λ (before : Contains (sent up numbers older) v). let w = sent_below older taken.1 v before in
-      (w.0, sent_later low numbers e.time e.place w.0 (below_step e older) w.1, w.2))
+      (w.0, sent_later low numbers w.0 (below_step e older) w.1, w.2))
       (Contains-append_cases (up.sends e.event s) (sent up numbers older) v c)
 
   pub taken_below : (trace : List (At E)) → AreTaken up numbers trace → AreTaken low numbers (below up via numbers trace)

@@ -7,6 +7,7 @@ use Rattle.std.specs.Prelude.{◌≡◌, ℕ, List, [], ◌∷◌, ◌++◌, Con
 use Rattle.wb_names.specs.Values.{DrawopValue}
 use Rattle.wb_codec.specs.declared.datagram.Datagram.{Datagram}
 use Rattle.wb_member.specs.Opened.{Opened}
+pub use Rattle.wb_progress.specs.Traces.{At}
 
 -- One kind of state and of event: the state of a number before anything happened; the member in a
 -- state; what an event makes of a state; what is sent by it, what it draws, and what it takes in
@@ -20,12 +21,6 @@ pub record Machine (State Event : Type 0) : Type 1 where
   pub gained : Event → State → List DrawopValue
   pub moment : Event → State → Option ℕ
   pub IsTaken : Event → State → Type 0
-
--- an event at a place, at a time
-pub record At (Event : Type 0) : Type 0 where
-  pub time : ℕ
-  pub place : ℕ
-  pub event : Event
 
 -- A trace has its newest event first. One comes before another that is the same, or longer by
 -- newer events.

@@ -1,24 +1,12 @@
 -- Traces in real time, of whatever machine: what drivers and the network keep to.
-use Rattle.std.specs.Prelude.{◌≡◌, ◌≢◌, ℕ, ◌+◌, ◌<◌, ◌≤◌, false, List, [], ◌∷◌, Contains, Some, nat_le, if◌then◌else◌}
+use Rattle.std.specs.Prelude.{◌≡◌, ◌≢◌, ℕ, ◌+◌, ◌<◌, ◌≤◌, false, List, [], ◌∷◌, Contains, Some}
 use Rattle.wb_codec.specs.declared.datagram.Datagram.{Datagram}
 use Rattle.wb_member.specs.Judged.{is_full}
 use Rattle.wb_progress.specs.Turns.{IsNowAt, Terms, settled_by}
 use Rattle.wb_laws_machines.specs.Honest.{AreApart}
 use Rattle.wb_laws_machines.specs.Machines.{AreTaken, At, Machine, member_at, state_at, ◌⊑◌}
 use Rattle.wb_laws_machines.specs.Maps.{HasSame, Map}
-
--- the time of the newest event, at first 0; times do not go back; the part of a trace up to a time
-abbrev pub time_of : {E : Type 0} → List (At E) → ℕ
-time_of [] = 0
-time_of (e ∷ older) = e.time
-
-abbrev pub AreInOrder : {E : Type 0} → List (At E) → Type 0
-AreInOrder [] = Unit {0}
-AreInOrder (e ∷ older) = (time_of older ≤ e.time) × AreInOrder older
-
-abbrev pub until : {E : Type 0} → ℕ → List (At E) → List (At E)
-until s [] = []
-until s (e ∷ older) = if nat_le e.time s then e ∷ older else until s older
+pub use Rattle.wb_progress.specs.Traces.{AreInOrder, time_of, until}
 
 -- What a machine has besides in real time: what an event hands in of what comes; when a state has something to do; and
 -- whether an event is no start of a program.

@@ -1,5 +1,5 @@
 -- Equal reports and no gaps tell agreement, at any two moments.
-use Rattle.std.proofs.Common.{◌≡◌, ℕ, ◌≤◌, Bool, true, false, cond, List, [], ◌∷◌, ◌++◌, arith, refl}
+use Rattle.std.proofs.Common.{◌≡◌, ℕ, ◌≤◌, Bool, true, false, cond, List, [], ◌∷◌, arith, refl}
 use Rattle.std.specs.Prelude.{nat_eq}
 use Rattle.wb_names.specs.declared.name.PageId.{PageId}
 use Rattle.wb_gaps.specs.Answers.{report_of}
@@ -9,14 +9,14 @@ use Rattle.wb_board.specs.Counts.{MAX_CELLS}
 use Rattle.wb_laws_machines.specs.Agreement.{Agree}
 use Rattle.wb_laws_machines.specs.Honest.{AnyName, AreApart, AreHonest as AreHonestOf, IsOn}
 use Rattle.wb_laws_machines.specs.Laws.{HoldsAllDrawn}
-use Rattle.wb_laws_machines.specs.Machines.{AreTaken}
+use Rattle.wb_laws_machines.specs.Machines.{AreTaken, part, whole, ◌⊑◌}
 use Rattle.wb_laws_machines.proofs.Agreeing as of
 use Rattle.wb_laws_machines.proofs.Honest.{honest_of}
 use Rattle.wb_laws_sessions.specs.Drawn.{AreHonest, StepsAreHonest}
 use Rattle.wb_laws_sessions.specs.Members.{Deed, Does, IsSmall, Opens, after_deed, member}
 use Rattle.wb_laws_sessions.specs.Sessions.{Step, host_at}
 use Rattle.wb_laws_sessions.proofs.Deeds.{Fits, fits_after}
-use Rattle.wb_laws_sessions.proofs.Drawn.{behind, honest_is}
+use Rattle.wb_laws_sessions.proofs.Drawn.{honest_is}
 use Rattle.wb_laws_sessions.proofs.Members.{member_is_lawful, members_are_small}
 
 module _ (numbers : ℕ → ℕ) where
@@ -27,9 +27,9 @@ module _ (numbers : ℕ → ℕ) where
     by f true = fits_after e.event (host_at numbers older i) honest.0.small f
     by f false = f
 
-  pub older_honest : (newer older : List Step) → AreHonest numbers (newer ++ older) → AreHonest numbers older
-  older_honest [] older h = h
-  older_honest (e ∷ newer) older h = older_honest newer older h.1
+  pub older_honest : {older steps : List Step} → older ⊑ steps → AreHonest numbers steps → AreHonest numbers older
+  older_honest whole honest = honest
+  older_honest (part behind) honest = older_honest behind honest.1
 
   pub taken : (steps : List Step) → AreHonest numbers steps → AreTaken member numbers steps
   taken [] honest = tt
@@ -44,13 +44,12 @@ steps_are_honest numbers steps honest = (taken numbers steps honest, honest_is n
 of_page : (numbers : ℕ → ℕ) (steps : List Step) (page : PageId) → AreHonest numbers steps → AreHonestOf (IsOn page) member numbers steps
 of_page numbers steps page honest = honest_of member numbers AnyName (IsOn page) (λ n is. tt) steps (honest_is numbers steps honest)
 
-pub reports_tell_agreement : (numbers : ℕ → ℕ) (steps newer older newer' older' : List Step) (i j : ℕ) (page : PageId)
-    → AreApart numbers → AreHonest numbers steps → steps ≡ newer ++ older → steps ≡ newer' ++ older'
+pub reports_tell_agreement : (numbers : ℕ → ℕ) (steps older older' : List Step) (i j : ℕ) (page : PageId)
+    → AreApart numbers → AreHonest numbers steps → older ⊑ steps → older' ⊑ steps
     → report_of (host_at numbers older i).is.held page ≡ report_of (host_at numbers older' j).is.held page
     → gaps_at page (host_at numbers older i) ≡ [] → gaps_at page (host_at numbers older' j) ≡ [] → Agree (host_at numbers older i) (host_at numbers older' j) page
-reports_tell_agreement numbers steps newer older newer' older' i j page apart honest split split' =
-    of.reports_tell_agreement member member_is_lawful members_are_small numbers steps older older' i j page apart (taken numbers steps honest)
-    (of_page numbers steps page honest) (behind numbers steps newer older split) (behind numbers steps newer' older' split')
+reports_tell_agreement numbers steps older older' i j page apart honest =
+    of.reports_tell_agreement member member_is_lawful members_are_small numbers steps older older' i j page apart (taken numbers steps honest) (of_page numbers steps page honest)
 
 pub whole_boards_agree : (numbers : ℕ → ℕ) (steps : List Step) (i j : ℕ) (page : PageId) → AreHonest numbers steps
     → HoldsAllDrawn member numbers steps page i → HoldsAllDrawn member numbers steps page j → Agree (host_at numbers steps i) (host_at numbers steps j) page

@@ -1,5 +1,5 @@
 -- Nothing is invented: what is held was drawn, and each name means one drawop.
-use Rattle.std.proofs.Common.{◌≡◌, ◌⊎◌, ℕ, ◌≤◌, List, [], ◌∷◌, ◌++◌, refl, subst, sym, ⊎_elim}
+use Rattle.std.proofs.Common.{◌≡◌, ◌⊎◌, ℕ, ◌≤◌, List, [], ◌∷◌, refl, subst, ⊎_elim}
 use Rattle.std.specs.Prelude.{Contains}
 use Rattle.wb_names.specs.Arrivals.{Outcome, New, Again, Clash, Left}
 use Rattle.wb_names.specs.History.{IsHistory}
@@ -8,7 +8,7 @@ use Rattle.wb_names.proofs.Listings.{Contains-none}
 use Rattle.wb_member.specs.Lines.{Arrives, Calls, Says}
 use Rattle.wb_member.specs.Opened.{Opened, becomes}
 use Rattle.wb_laws_machines.specs.Honest.{AnyName, AreApart, AreHonest as AreHonestOf, IsAbove}
-use Rattle.wb_laws_machines.specs.Machines.{◌⊑◌, whole, part}
+use Rattle.wb_laws_machines.specs.Machines.{whole}
 use Rattle.wb_laws_machines.proofs.Drawn as of
 use Rattle.wb_laws_sessions.specs.Drawn.{AreHonest, WasDrawn, WasHeld, drawn_at}
 use Rattle.wb_laws_sessions.specs.Members.{Deed, Does, Opens, drawn_by, gained_by, member, new_where}
@@ -33,21 +33,12 @@ gained_arrives (Opens constants cells seed) host d c = absurd (Contains-none d c
 module _ (numbers : ℕ → ℕ) where
   -- ---- steps as events of a machine
 
-  front_behind : (front older : List Step) → older ⊑ (front ++ older)
-  front_behind [] older = whole
-  front_behind (e ∷ front) older = part (front_behind front older)
-
-  pub behind : (steps newer older : List Step) → steps ≡ newer ++ older → older ⊑ steps
-  behind steps newer older split = subst (λ (s : List Step). older ⊑ s) (sym split) (front_behind newer older)
-
   pub honest_is : (steps : List Step) → AreHonest numbers steps → AreHonestOf AnyName member numbers steps
   honest_is [] honest = tt
   honest_is (e ∷ older) honest =
       let host : Opened = host_at numbers older e.place in (
         record {
-          comes = λ d any c.
-              let w = honest.0.comes d (gained_arrives e.event host d c) in
-              record { older = w.older; behind = behind older w.newer w.older w.split; place = w.place; held = w.held };
+          comes = λ d any c. honest.0.comes d (gained_arrives e.event host d c);
           own = λ d any c. honest.0.own d (deed_draws e.event host d c).said;
           new = λ d any c.
               let by = deed_draws e.event host d c in
@@ -70,7 +61,7 @@ module _ (numbers : ℕ → ℕ) where
 
 pub once_held_was_drawn : (numbers : ℕ → ℕ) (steps : List Step) → AreHonest numbers steps → (d : DrawopValue) → WasHeld numbers steps d → WasDrawn numbers steps d
 once_held_was_drawn numbers steps honest d w =
-    of.each_was_drawn member numbers AnyName member_is_lawful steps (honest_is numbers steps honest) w.older (behind numbers steps w.newer w.older w.split) w.place d tt w.held
+    of.each_was_drawn member numbers AnyName member_is_lawful steps (honest_is numbers steps honest) w.older w.behind w.place d tt w.held
 
 pub held_was_drawn : (numbers : ℕ → ℕ) (steps : List Step) → AreHonest numbers steps → (i : ℕ) (d : DrawopValue) → Contains (host_at numbers steps i).is.held d → WasDrawn numbers steps d
 held_was_drawn numbers steps honest i d c = of.each_was_drawn member numbers AnyName member_is_lawful steps (honest_is numbers steps honest) steps whole i d tt c

@@ -1,5 +1,5 @@
 -- What is sent was held.
-use Rattle.std.proofs.Common.{◌⊎◌, List, [], ◌∷◌, ap, inl, inr, refl, subst, sym, ⊎_elim}
+use Rattle.std.proofs.Common.{◌⊎◌, [], ◌∷◌, inl, inr, subst, sym, ⊎_elim}
 use Rattle.std.specs.Prelude.{Contains}
 use Rattle.std.proofs.lemmas.List.Elements.{Contains-append_cases}
 use Rattle.wb_names.specs.Arrivals.{outcome_of}
@@ -12,12 +12,14 @@ use Rattle.wb_member.specs.Members.{Member, Act, Draws, sends}
 use Rattle.wb_member.specs.Opened.{Opened}
 use Rattle.wb_member.specs.declared.calls.Call.{Call}
 use Rattle.wb_laws_sessions.specs.Drawn.{SentWasHeld}
-use Rattle.wb_laws_sessions.specs.Sessions.{Step, host_at, sent}
-use Rattle.wb_laws_sessions.specs.Members.{Deed, Does, after_deed, sent_by_deed}
+use Rattle.wb_laws_sessions.specs.Sessions.{host_at, sent}
+use Rattle.wb_laws_sessions.specs.Members.{after_deed, Deed, Does, member, sent_by_deed}
 use Rattle.wb_laws_sessions.proofs.Acts.{IsDrawing, draws_sent}
 use Rattle.wb_laws_sessions.proofs.CallActs.{IsCareful, call_acts}
 use Rattle.wb_laws_machines.proofs.Outcomes.{found}
 use Rattle.wb_laws_sessions.proofs.Sending.{one_of, said_held, there}
+use Rattle.wb_laws_machines.proofs.Traces.{held_later}
+use Rattle.wb_laws_machines.specs.Machines.{whole, part}
 
 -- an act that draws nothing sends only drawops that are held
 act_sends : (act : Act) (m : Member) → IsCareful act m → (d : DrawopValue) → Contains (sends act m) (Draw d) → Contains m.held d
@@ -42,10 +44,10 @@ pub sent_was_held : SentWasHeld
 sent_was_held numbers [] d c = absurd (Contains-none (Draw d) c)
 sent_was_held numbers (e ∷ older) d c = ⊎_elim
     (λ (now : Contains (sent_by_deed e.event (host_at numbers older e.place)) (Draw d)). ⊎_elim
-    (λ (was : Contains (host_at numbers older e.place).is.held d). record { newer = e ∷ []; older = older; split = refl; place = e.place; held = was })
+    (λ (was : Contains (host_at numbers older e.place).is.held d). record { older = older; behind = part whole; place = e.place; held = was })
     (λ (is : Contains (after_deed e.event (host_at numbers older e.place)).is.held d).
-    record { newer = []; older = e ∷ older; split = refl; place = e.place; held = subst (λ (h : Opened). Contains h.is.held d) (sym (there numbers e older)) is })
+    record { older = e ∷ older; behind = whole; place = e.place; held = subst (λ (h : Opened). Contains h.is.held d) (sym (there numbers e older)) is })
     (deed_sends e.event (host_at numbers older e.place) d now))
     (λ (before : Contains (sent numbers older) (Draw d)). let w = sent_was_held numbers older d before in
-    record { newer = e ∷ w.newer; older = w.older; split = ap (λ (s : List Step). e ∷ s) w.split; place = w.place; held = w.held })
+    held_later member numbers d (part whole) w)
     (Contains-append_cases (sent_by_deed e.event (host_at numbers older e.place)) (sent numbers older) (Draw d) c)

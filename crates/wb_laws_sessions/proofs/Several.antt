@@ -20,6 +20,8 @@ use Rattle.wb_laws_sessions.proofs.Deeds.{deed_draws}
 use Rattle.wb_laws_sessions.proofs.Drawn.{drawn_cases, names_mean_one, once_held_was_drawn}
 use Rattle.wb_laws_machines.proofs.Outcomes.{Found, found}
 use Rattle.wb_laws_sessions.proofs.Sending.{there}
+use Rattle.wb_laws_machines.proofs.Traces.{split_behind}
+use Rattle.wb_laws_machines.specs.Machines.{whole}
 
 -- ---- lines as deeds
 
@@ -53,10 +55,6 @@ then_split time place (deed ∷ deeds) older =
     (rest.0 ++ s ∷ [], rest.1 ∙ sym (append_assoc rest.0 (s ∷ []) older))
 
 -- ---- what is sent
-
-pub sent_longer : (numbers : ℕ → ℕ) (front older : List Step) (v : Datagram) → Contains (sent numbers older) v → Contains (sent numbers (front ++ older)) v
-sent_longer numbers [] older v c = c
-sent_longer numbers (e ∷ front) older v c = Contains-append_right (sent_by_deed e.event (host_at numbers (front ++ older) e.place)) (sent numbers (front ++ older)) v (sent_longer numbers front older v c)
 
 module _ (numbers : ℕ → ℕ) (time place : ℕ) where
   abbrev at : Deed → Step
@@ -157,7 +155,7 @@ module _ (numbers : ℕ → ℕ) (time place : ℕ) where
     held_none d deed p was clash =
         let before : AreHonest numbers p.part = (p.honest honest).1 in
         clash.3 (names_mean_one numbers p.part apart before clash.0 d
-        (once_held_was_drawn numbers p.part before clash.0 (record { newer = p.front; older = older; split = p.split; place = place; held = clash.1 }))
+        (once_held_was_drawn numbers p.part before clash.0 (record { older = older; behind = split_behind p.front older p.split; place = place; held = clash.1 }))
         (once_held_was_drawn numbers p.part before d was) clash.2)
 
     pub arrival_never_clashes : (d : DrawopValue) (k : ℕ) → Contains deeds (Does (Arrives d)) → becomes d host ≡ Clash k → ⊥
@@ -168,7 +166,7 @@ module _ (numbers : ℕ → ℕ) (time place : ℕ) where
     above_none : (d : DrawopValue) (part front : List Step) → part ≡ front ++ older → AreHonest numbers part → d.name.source ≡ numbers place → IsAbove (drawn_at numbers part place) d.name → Clashes d → ⊥
     above_none d part front split before own above clash =
         let x : DrawopValue = clash.0 in
-        let was = once_held_was_drawn numbers part before x (record { newer = front; older = older; split = split; place = place; held = clash.1 }) in
+        let was = once_held_was_drawn numbers part before x (record { older = older; behind = split_behind front older split; place = place; held = clash.1 }) in
         let here : was.0 ≡ place = apart was.0 place (was.1 ∙ ap (λ (n : NameValue). n.source) clash.2 ∙ own) in
         let lt : x.name.seq < d.name.seq = above x (subst (λ (j : ℕ). Contains (drawn_at numbers part j) x) here was.2) (ap (λ (n : NameValue). n.page) clash.2) in
         let eq : x.name.seq ≡ d.name.seq = ap (λ (n : NameValue). n.seq) clash.2 in
@@ -180,6 +178,6 @@ module _ (numbers : ℕ → ℕ) (time place : ℕ) where
         let p = part_of says deeds older c in
         let is = p.honest honest in
         ⊎_elim
-        (λ (was : Contains (host_at numbers p.part place).is.held d). held_none d says p (record { newer = []; older = p.part; split = refl; place = place; held = was }) (clash_of d k e))
+        (λ (was : Contains (host_at numbers p.part place).is.held d). held_none d says p (record { older = p.part; behind = whole; place = place; held = was }) (clash_of d k e))
         (λ (above : IsAbove (drawn_at numbers p.part place) d.name). above_none d p.part p.front p.split is.1 (is.0.own d refl).0 above (clash_of d k e))
         (is.0.new d refl)

@@ -1,5 +1,5 @@
 -- What is drawn and held in a session, and what it asks of what comes and is drawn.
-use Rattle.std.specs.Prelude.{◌≡◌, ◌⊎◌, ℕ, ◌≤◌, List, [], ◌∷◌, ◌++◌, Contains}
+use Rattle.std.specs.Prelude.{◌≡◌, ◌⊎◌, ℕ, ◌≤◌, List, [], ◌∷◌, Contains}
 use Rattle.wb_names.specs.Values.{DrawopValue}
 use Rattle.wb_codec.specs.declared.datagram.Datagram.TheVariants.{Draw}
 use Rattle.wb_board.specs.Counts.{MAX_CELLS}
@@ -16,12 +16,8 @@ abbrev pub drawn_at : (ℕ → ℕ) → List Step → ℕ → List DrawopValue
 drawn_at = of.drawn_at member
 
 -- some member held it at some step
-pub record WasHeld (numbers : ℕ → ℕ) (steps : List Step) (d : DrawopValue) : Type 0 where
-  pub newer : List Step
-  pub older : List Step
-  pub split : steps ≡ newer ++ older
-  pub place : ℕ
-  pub held : Contains (host_at numbers older place).is.held d
+abbrev pub WasHeld : (ℕ → ℕ) → List Step → DrawopValue → Type 0
+WasHeld = of.WasHeld member
 
 -- No board has more cells than one can have. What comes, some member held before. What a member
 -- draws has its own number, and a sequence number above all that it drew on the page.

@@ -11,13 +11,13 @@ use Rattle.wb_progress.specs.InTime.{answering_by, RequestIsAnsweredBut}
 use Rattle.wb_progress.specs.Bounds.{AreAnswersNear}
 use Rattle.wb_progress.specs.Keepers.{IsWithin}
 use Rattle.wb_progress.specs.Repairs.{timers_at}
-use Rattle.wb_progress.specs.Turns.{longest, Terms, quiet_span, settled_by, IsNowAt, Turn, Places, desk_at, has, timers_there, time_of, AreInOrder, IsAnswerable, AllHoldBehind, IsTurn, IsHeardAt, IsOtherOrLacked, KeepTimeBut}
+use Rattle.wb_progress.specs.Turns.{At, longest, Terms, quiet_span, settled_by, IsNowAt, Turn, Places, desk_at, has, timers_there, time_of, AreInOrder, IsAnswerable, AllHoldBehind, IsTurn, IsHeardAt, IsOtherOrLacked, KeepTimeBut}
 use Rattle.wb_progress.proofs.Calls.{answers_go_on, requests_are_heard}
 use Rattle.wb_progress.proofs.Giving.{Spares, spares_held, desk_here, Called, changes, keeps, held_before, Gave, moment_there, near_at, why_quiet, brought, answered, copy_comes}
 use Rattle.wb_progress.proofs.Parts.{before_end, order_of, in_past, joined}
 use Rattle.wb_progress.proofs.TimerBounds.{answers_later}
 
-module _ {MayStop : List Turn → Turn → NameValue → Type 0} (places : Places) (terms : Terms) (turns : List Turn) (is : KeepTimeBut MayStop places terms turns) where
+module _ {MayStop : List (At Turn) → At Turn → NameValue → Type 0} (places : Places) (terms : Terms) (turns : List (At Turn)) (is : KeepTimeBut MayStop places terms turns) where
   -- what all hold after one time they hold after each later one
   pub sooner : (a b : ℕ) (n : NameValue) → a ≤ b → AllHoldBehind places terms turns a n → AllHoldBehind places terms turns b n
   sooner a b n le all newer later i split lt live = all newer later i split (omega (arith, le, lt)) live
@@ -30,10 +30,10 @@ module _ {MayStop : List Turn → Turn → NameValue → Type 0} (places : Place
 
   module _ (j : ℕ) (n : NameValue) (answer : AnswerTimer) (live : Contains terms.live j) (limit : ℕ) (soon : answer.due + terms.late + terms.lag j ≤ limit) (spares : Spares places MayStop n) where
     -- it stands as it was set, at a part that ends by the limit; or it ended by then
-    abbrev Ends : List Turn → Type 0
+    abbrev Ends : List (At Turn) → Type 0
     Ends part = (((timers_there places part j n).answer ≡ Some answer) × (time_of part ≤ limit)) ⊎ CopyBy n limit
 
-    one_turn : (newer older : List Turn) (e : Turn) → turns ≡ newer ++ e ∷ older → settled_by terms < e.time → has places older j n ≡ true → (timers_there places older j n).answer ≡ Some answer → Ends (e ∷ older)
+    one_turn : (newer older : List (At Turn)) (e : At Turn) → turns ≡ newer ++ e ∷ older → settled_by terms < e.time → has places older j n ≡ true → (timers_there places older j n).answer ≡ Some answer → Ends (e ∷ older)
     one_turn newer older e split late held stands = by_time (subst (λ o. IfSome o (λ (a : AnswerTimer). e.time ≤ a.due + (terms.lag j + terms.late))) stands (is.soon newer older e j n split live (omega (arith, late))).answer) where
       came : e.time ≤ limit → (c : Called places terms turns is older e j) → Brings n c.call ⊎ Fires answer.due c.call → Ends (e ∷ older)
       came le c gives = ⊎_elim
@@ -52,7 +52,7 @@ module _ {MayStop : List Turn → Turn → NameValue → Type 0} (places : Place
           (answers_go_on (places.me j) (places.constants j) c.call (desk_at places older j).calls n answer stands))
           (changes places terms turns is newer older e j split live)
 
-    pub ends : (front middle base : List Turn) → turns ≡ front ++ (middle ++ base) → settled_by terms < time_of base → has places base j n ≡ true → (timers_there places base j n).answer ≡ Some answer → time_of base ≤ limit → Ends (middle ++ base)
+    pub ends : (front middle base : List (At Turn)) → turns ≡ front ++ (middle ++ base) → settled_by terms < time_of base → has places base j n ≡ true → (timers_there places base j n).answer ≡ Some answer → time_of base ≤ limit → Ends (middle ++ base)
     ends front [] base split late held stands le = inl (stands, le)
     ends front (e ∷ middle) base split late held stands le =
         let part : turns ≡ (front ++ e ∷ []) ++ (middle ++ base) = split ∙ sym (append_assoc front (e ∷ []) (middle ++ base)) in
@@ -68,7 +68,7 @@ module _ {MayStop : List Turn → Turn → NameValue → Type 0} (places : Place
 
   -- ---- a request that is heard
 
-  module _ (newer older : List Turn) (e : Turn) (asker : ℕ) (n : NameValue) (split : turns ≡ newer ++ e ∷ older) (late : settled_by terms < e.time) (later_yet : settled_by terms + quiet_span terms ≤ e.time) (sent : Contains e.sent (Request asker n)) (a : IsAnswerable places terms turns n) (spares : Spares places MayStop n) where
+  module _ (newer older : List (At Turn)) (e : At Turn) (asker : ℕ) (n : NameValue) (split : turns ≡ newer ++ e ∷ older) (late : settled_by terms < e.time) (later_yet : settled_by terms + quiet_span terms ≤ e.time) (sent : Contains e.event.sent (Request asker n)) (a : IsAnswerable places terms turns n) (spares : Spares places MayStop n) where
     abbrev j : ℕ
     j = a.0
 
@@ -89,14 +89,14 @@ module _ {MayStop : List Turn → Turn → NameValue → Type 0} (places : Place
     differ same = true≢false (sym holds_it ∙ ap (λ (k : ℕ). has places older k n) (sym same) ∙ who.1)
 
     module _ (h : IsHeardAt places newer e older j terms.delivery asker n) where
-      abbrev before : List Turn
+      abbrev before : List (At Turn)
       before = h.between ++ e ∷ older
 
-      abbrev x : Turn
+      abbrev x : At Turn
       x = h.arrival
 
       whole : turns ≡ h.later ++ x ∷ before
-      whole = split ∙ ap (λ (t : List Turn). t ++ e ∷ older) h.split ∙ append_assoc h.later (x ∷ h.between) (e ∷ older)
+      whole = split ∙ ap (λ (t : List (At Turn)). t ++ e ∷ older) h.split ∙ append_assoc h.later (x ∷ h.between) (e ∷ older)
 
       order : AreInOrder (x ∷ before)
       order = order_of h.later (x ∷ before) (subst AreInOrder whole is.order)
@@ -200,7 +200,7 @@ module _ {MayStop : List Turn → Turn → NameValue → Type 0} (places : Place
           let p = in_past newest later h.later (x ∷ before) same (subst AreInOrder is_part is.order) top in
           let stands' : (timers_there places (x ∷ before) j n).answer ≡ Some answer = ap (λ (calls : List KeeperCall). (timers_at (places.me j) (places.constants j) calls n).answer) at_j ∙ stands in
           let has_it : has places (x ∷ before) j n ≡ true = keeps places terms turns is h.later (x ∷ []) before j n whole a.1 held in
-          let split_at : turns ≡ newest ++ (p.0 ++ (x ∷ before)) = is_part ∙ ap (λ (t : List Turn). newest ++ t) p.1 in
+          let split_at : turns ≡ newest ++ (p.0 ++ (x ∷ before)) = is_part ∙ ap (λ (t : List (At Turn)). newest ++ t) p.1 in
           let top_is : time_of later ≡ time_of (p.0 ++ (x ∷ before)) = ap time_of p.1 in
           ⊎_elim
           (λ (s : ((timers_there places (p.0 ++ (x ∷ before)) j n).answer ≡ Some answer) × (time_of (p.0 ++ (x ∷ before)) ≤ limit)). let le = s.1 in absurd (omega (arith, lt, le, top_is)))
@@ -219,8 +219,8 @@ module _ {MayStop : List Turn → Turn → NameValue → Type 0} (places : Place
         let same : time_of turns ≡ time_of (newest ++ later) = ap time_of is_part in
         all_hold (is.delivered.requests newer older e asker n j split quiet_time sent a.1 differ holds_it (omega (arith, lt, end, same))) newest later i is_part lt live
 
-pub request_is_answered_but : (MayStop : List Turn → Turn → NameValue → Type 0) (places : Places) (terms : Terms) (turns newer older : List Turn) (e : Turn) (asker : ℕ) (n : NameValue) → KeepTimeBut MayStop places terms turns → Spares places MayStop n → turns ≡ newer ++ e ∷ older
-    → settled_by terms < e.time → settled_by terms + quiet_span terms ≤ e.time → Contains e.sent (Request asker n) → IsAnswerable places terms turns n → AllHoldBehind places terms turns (e.time + answering_by terms) n
+pub request_is_answered_but : (MayStop : List (At Turn) → At Turn → NameValue → Type 0) (places : Places) (terms : Terms) (turns newer older : List (At Turn)) (e : At Turn) (asker : ℕ) (n : NameValue) → KeepTimeBut MayStop places terms turns → Spares places MayStop n → turns ≡ newer ++ e ∷ older
+    → settled_by terms < e.time → settled_by terms + quiet_span terms ≤ e.time → Contains e.event.sent (Request asker n) → IsAnswerable places terms turns n → AllHoldBehind places terms turns (e.time + answering_by terms) n
 request_is_answered_but MayStop places terms turns newer older e asker n is spares split late later_yet sent a = answered_to_all places terms turns is newer older e asker n split late later_yet sent a spares
 
 pub request_is_answered_other : RequestIsAnsweredBut

@@ -11,7 +11,7 @@ use Rattle.wb_keeper.specs.Ticks.{sent_by_tick}
 use Rattle.wb_progress.specs.Calls.{Brings, Fires, Requests}
 use Rattle.wb_progress.specs.InTime.{answering_by, repairing, known_from, IsGivenUp, TimerLeadsBut, TimerLeadsOrIsGivenUp}
 use Rattle.wb_progress.specs.Repairs.{timers_at}
-use Rattle.wb_progress.specs.Turns.{Terms, settled_by, Turn, Places, Accepts, desk_at, has, timers_there, time_of, AreInOrder, IsAnswerable, AllHoldBehind, IsOtherOrLacked, WasSent, KeepTimeBut}
+use Rattle.wb_progress.specs.Turns.{At, Terms, settled_by, Turn, Places, Accepts, desk_at, has, timers_there, time_of, AreInOrder, IsAnswerable, AllHoldBehind, IsOtherOrLacked, WasSent, KeepTimeBut}
 use Rattle.wb_progress.proofs.Answering.{sooner, request_is_answered_but}
 use Rattle.wb_progress.proofs.Calls.{requests_go_on}
 use Rattle.wb_progress.proofs.Giving.{Spares, spares_held, Called, Copy, IsGiven, changes, came_or_given, copy_comes}
@@ -20,8 +20,8 @@ use Rattle.wb_progress.proofs.Parts.{before_end, order_of, joined, AreFrom, from
 use Rattle.std.proofs.lemmas.Bool.{le-leb}
 use Rattle.std.proofs.Math.Nat.{le_refl}
 
-module _ {MayStop : List Turn → Turn → NameValue → Type 0} (places : Places) (terms : Terms) (turns : List Turn) (is : KeepTimeBut MayStop places terms turns) (i : ℕ) (live : Contains terms.live i) (n : NameValue) (a : IsAnswerable places terms turns n) (spares : Spares places MayStop n) where
-  abbrev asks : List Turn → Option AskTimer
+module _ {MayStop : List (At Turn) → At Turn → NameValue → Type 0} (places : Places) (terms : Terms) (turns : List (At Turn)) (is : KeepTimeBut MayStop places terms turns) (i : ℕ) (live : Contains terms.live i) (n : NameValue) (a : IsAnswerable places terms turns n) (spares : Spares places MayStop n) where
+  abbrev asks : List (At Turn) → Option AskTimer
   asks part = (timers_there places part i n).ask
 
   abbrev HoldBy : ℕ → Type 0
@@ -29,7 +29,7 @@ module _ {MayStop : List Turn → Turn → NameValue → Type 0} (places : Place
 
   -- ---- one turn that is late enough
 
-  module _ (newer older : List Turn) (e : Turn) (split : turns ≡ newer ++ e ∷ older) (late : known_from terms ≤ e.time) where
+  module _ (newer older : List (At Turn)) (e : At Turn) (split : turns ≡ newer ++ e ∷ older) (late : known_from terms ≤ e.time) where
     -- the turn gives the name up
     pub record Gives : Type 0 where
       pub place : e.place ≡ i
@@ -45,7 +45,7 @@ module _ {MayStop : List Turn → Turn → NameValue → Type 0} (places : Place
     settled = omega (arith, late)
 
     -- a request that was sent shortly before, or by this turn
-    asked_for : (front back : List Turn) (x : Turn) (asker : ℕ) → turns ≡ front ++ x ∷ back → e.time ≤ x.time + terms.delivery → x.time ≤ e.time → Contains x.sent (Request asker n) → HoldBy e.time
+    asked_for : (front back : List (At Turn)) (x : At Turn) (asker : ℕ) → turns ≡ front ++ x ∷ back → e.time ≤ x.time + terms.delivery → x.time ≤ e.time → Contains x.event.sent (Request asker n) → HoldBy e.time
     asked_for front back x asker at within le sent =
         sooner places terms turns is (x.time + answering_by terms) (e.time + answering_by terms) n (omega (arith, le))
         (request_is_answered_but MayStop places terms turns front back x asker n is spares at (omega (arith, late, within)) (omega (arith, late, within)) sent a)
@@ -101,17 +101,17 @@ module _ {MayStop : List Turn → Turn → NameValue → Type 0} (places : Place
             at_calls calls = (timers_at (places.me i) (places.constants i) calls n).ask
 
   -- no timer is overdue before a turn that comes so late
-  pub not_over : (newer older : List Turn) (e : Turn) (ask : AskTimer) → turns ≡ newer ++ e ∷ older → known_from terms ≤ e.time → asks older ≡ Some ask → e.time ≤ ask.due + (terms.lag i + terms.late)
+  pub not_over : (newer older : List (At Turn)) (e : At Turn) (ask : AskTimer) → turns ≡ newer ++ e ∷ older → known_from terms ≤ e.time → asks older ≡ Some ask → e.time ≤ ask.due + (terms.lag i + terms.late)
   not_over newer older e ask split late stands = subst (λ o. IfSome o (λ (k : AskTimer). e.time ≤ k.due + (terms.lag i + terms.late))) stands (is.soon newer older e i n split live (omega (arith, late))).ask
 
   -- ---- the turns behind a part
 
-  module _ (base : List Turn) (ask : AskTimer) (limit : ℕ) (soon : ask.due + terms.late + terms.lag i ≤ limit) where
+  module _ (base : List (At Turn)) (ask : AskTimer) (limit : ℕ) (soon : ask.due + terms.late + terms.lag i ≤ limit) where
     -- it stands as it was set, at a part that ends by the limit; or all come to hold the name, or it was given up
-    abbrev Ends : List Turn → Type 0
+    abbrev Ends : List (At Turn) → Type 0
     Ends part = ((asks part ≡ Some ask) × (time_of part ≤ limit)) ⊎ (HoldBy limit ⊎ IsGivenUp places turns base i n ask limit)
 
-    ends : (front middle : List Turn) → turns ≡ front ++ (middle ++ base) → AreFrom (known_from terms) middle → asks base ≡ Some ask → time_of base ≤ limit → Ends (middle ++ base)
+    ends : (front middle : List (At Turn)) → turns ≡ front ++ (middle ++ base) → AreFrom (known_from terms) middle → asks base ≡ Some ask → time_of base ≤ limit → Ends (middle ++ base)
     ends front [] split late stands le = inl (stands, le)
     ends front (e ∷ middle) split late stands le =
         let part : turns ≡ (front ++ e ∷ []) ++ (middle ++ base) = split ∙ sym (append_assoc front (e ∷ []) (middle ++ base)) in
@@ -132,19 +132,19 @@ module _ {MayStop : List Turn → Turn → NameValue → Type 0} (places : Place
               (leads_on front (middle ++ base) e split late.0 ask stands)
 
     -- where all turns behind the part are late enough
-    pub leads_or_given : (newer : List Turn) → turns ≡ newer ++ base → AreFrom (known_from terms) newer → asks base ≡ Some ask → time_of base ≤ limit → HoldBy limit ⊎ IsGivenUp places turns base i n ask limit
+    pub leads_or_given : (newer : List (At Turn)) → turns ≡ newer ++ base → AreFrom (known_from terms) newer → asks base ≡ Some ask → time_of base ≤ limit → HoldBy limit ⊎ IsGivenUp places turns base i n ask limit
     leads_or_given newer split late stands le = ⊎_elim
         (λ (s : (asks (newer ++ base) ≡ Some ask) × (time_of (newer ++ base) ≤ limit)). inl (λ newest later k is_part lt live_k. absurd (too_late newest later (s.1) is_part lt)))
         (λ (c : HoldBy limit ⊎ IsGivenUp places turns base i n ask limit). c)
         (ends [] newer split late stands le) where
-          too_late : (newest later : List Turn) → time_of (newer ++ base) ≤ limit → turns ≡ newest ++ later → limit + answering_by terms < time_of later → ⊥
+          too_late : (newest later : List (At Turn)) → time_of (newer ++ base) ≤ limit → turns ≡ newest ++ later → limit + answering_by terms < time_of later → ⊥
           too_late newest later le is_part lt =
               let end : time_of later ≤ time_of (newest ++ later) = before_end newest later (subst AreInOrder is_part is.order) in
               let top : time_of (newest ++ later) ≡ time_of (newer ++ base) = ap time_of (sym is_part ∙ split) in
               omega (arith, end, top, le, lt)
 
     -- where it is given up nowhere
-    pub leads_from : ((older : List Turn) (e : Turn) → MayStop older e n → ⊥) → (newer : List Turn) → turns ≡ newer ++ base → AreFrom (known_from terms) newer → asks base ≡ Some ask → time_of base ≤ limit → HoldBy limit
+    pub leads_from : ((older : List (At Turn)) (e : At Turn) → MayStop older e n → ⊥) → (newer : List (At Turn)) → turns ≡ newer ++ base → AreFrom (known_from terms) newer → asks base ≡ Some ask → time_of base ≤ limit → HoldBy limit
     leads_from never newer split late stands le = ⊎_elim
         (λ (h : HoldBy limit). h)
         (λ (g : IsGivenUp places turns base i n ask limit). absurd (given g))
@@ -155,7 +155,7 @@ module _ {MayStop : List Turn → Turn → NameValue → Type 0} (places : Place
               let late_then : known_from terms ≤ g.e.time = (from_tail (known_from terms) g.front (g.e ∷ g.between) (subst (AreFrom (known_from terms)) there late)).0 in
               never (g.between ++ base) g.e ((is.quiet g.front (g.between ++ base) g.e g.split (omega (arith, late_then))).goes_on g.now n g.given)
 
-pub timer_leads_or_given : (MayStop : List Turn → Turn → NameValue → Type 0) (places : Places) (terms : Terms) (turns newer older : List Turn) (i : ℕ) (n : NameValue) (ask : AskTimer) (due : ℕ) → KeepTimeBut MayStop places terms turns → Spares places MayStop n → turns ≡ newer ++ older → Contains terms.live i → known_from terms ≤ time_of older
+pub timer_leads_or_given : (MayStop : List (At Turn) → At Turn → NameValue → Type 0) (places : Places) (terms : Terms) (turns newer older : List (At Turn)) (i : ℕ) (n : NameValue) (ask : AskTimer) (due : ℕ) → KeepTimeBut MayStop places terms turns → Spares places MayStop n → turns ≡ newer ++ older → Contains terms.live i → known_from terms ≤ time_of older
     → (timers_there places older i n).ask ≡ Some ask → ask.due + terms.lag i ≤ due → IsAnswerable places terms turns n
     → AllHoldBehind places terms turns (max (time_of older) due + repairing terms) n ⊎ IsGivenUp places turns older i n ask (max (time_of older) due + terms.late)
 timer_leads_or_given MayStop places terms turns newer older i n ask due is spares split live late stands by a =
@@ -172,7 +172,7 @@ pub timer_leads_or_is_given_up : TimerLeadsOrIsGivenUp
 timer_leads_or_is_given_up places terms turns newer older i n ask due is split live late stands by a = timer_leads_or_given (IsOtherOrLacked places n) places terms turns newer older i n ask due is (spares_held places n) split live late stands by a
 
 -- of a name that is given up nowhere
-timer_leads_but : (MayStop : List Turn → Turn → NameValue → Type 0) (places : Places) (terms : Terms) (turns newer older : List Turn) (i : ℕ) (n : NameValue) (ask : AskTimer) (due : ℕ) → KeepTimeBut MayStop places terms turns → ((older : List Turn) (e : Turn) → MayStop older e n → ⊥) → turns ≡ newer ++ older → Contains terms.live i → known_from terms ≤ time_of older
+timer_leads_but : (MayStop : List (At Turn) → At Turn → NameValue → Type 0) (places : Places) (terms : Terms) (turns newer older : List (At Turn)) (i : ℕ) (n : NameValue) (ask : AskTimer) (due : ℕ) → KeepTimeBut MayStop places terms turns → ((older : List (At Turn)) (e : At Turn) → MayStop older e n → ⊥) → turns ≡ newer ++ older → Contains terms.live i → known_from terms ≤ time_of older
     → (timers_there places older i n).ask ≡ Some ask → ask.due + terms.lag i ≤ due → IsAnswerable places terms turns n → AllHoldBehind places terms turns (max (time_of older) due + repairing terms) n
 timer_leads_but MayStop places terms turns newer older i n ask due is never split live late stands by a =
     let order = subst AreInOrder split is.order in

@@ -1,5 +1,5 @@
 -- Keepers at places, in real time: what a network and drivers keep to, so that what is lost comes by a stated time.
-use Rattle.std.specs.Prelude.{◌≡◌, ◌≢◌, ◌⊎◌, ℕ, ◌+◌, ◌*◌, ◌-◌, ◌<◌, ◌≤◌, Bool, true, false, List, [], ◌∷◌, ◌++◌, Contains, max, nat_eq, nat_le, IfSome, None, if◌then◌else◌}
+use Rattle.std.specs.Prelude.{◌≡◌, ◌≢◌, ◌⊎◌, ℕ, ◌+◌, ◌*◌, ◌-◌, ◌<◌, ◌≤◌, Bool, true, false, List, [], ◌∷◌, ◌++◌, Contains, max, nat_eq, IfSome, None, if◌then◌else◌}
 use Rattle.wb_names.specs.Values.{NameValue, DrawopValue}
 use Rattle.wb_names.specs.History.{IsHistory}
 use Rattle.wb_codec.specs.declared.datagram.Datagram.{Datagram}
@@ -13,6 +13,7 @@ use Rattle.wb_keeper.specs.Ticks.{sent_by_tick, stopped_after}
 use Rattle.wb_progress.specs.Bounds.{AreAnswersNear}
 use Rattle.wb_progress.specs.Keepers.{IsWithin}
 use Rattle.wb_progress.specs.Repairs.{timers_at}
+pub use Rattle.wb_progress.specs.Traces.{AreInOrder, At, time_of, until}
 
 -- ---- the terms
 
@@ -54,10 +55,8 @@ pub record Desk : Type 0 where
   pub calls : List KeeperCall
   pub held : List DrawopValue
 
--- At a time it is the turn of the keeper at a place: it accepts a call or none, and sends datagrams. This is its desk after it.
+-- It is the turn of the keeper at a place: it accepts a call or none, and sends datagrams. This is its desk after it.
 pub record Turn : Type 0 where
-  pub time : ℕ
-  pub place : ℕ
   pub desk : Desk
   pub sent : List Datagram
 
@@ -68,84 +67,69 @@ pub record Places : Type 0 where
   pub first : ℕ → Desk
 
 -- the desk at a place after some turns, of which the newest is the first
-abbrev pub desk_at : Places → List Turn → ℕ → Desk
+abbrev pub desk_at : Places → List (At Turn) → ℕ → Desk
 desk_at places [] i = places.first i
-desk_at places (e ∷ older) i = if nat_eq e.place i then e.desk else desk_at places older i
+desk_at places (e ∷ older) i = if nat_eq e.place i then e.event.desk else desk_at places older i
 
 -- a name is held there
-abbrev pub has : Places → List Turn → ℕ → NameValue → Bool
+abbrev pub has : Places → List (At Turn) → ℕ → NameValue → Bool
 has places turns i n = holds (desk_at places turns i).held n
 
 -- its timers there
-abbrev pub timers_there : Places → List Turn → ℕ → NameValue → Timers
+abbrev pub timers_there : Places → List (At Turn) → ℕ → NameValue → Timers
 timers_there places turns i n = timers_at (places.me i) (places.constants i) (desk_at places turns i).calls n
 
--- the time of the newest turn, at first 0
-abbrev pub time_of : List Turn → ℕ
-time_of [] = 0
-time_of (e ∷ older) = e.time
-
--- Times do not go back.
-abbrev pub AreInOrder : List Turn → Type 0
-AreInOrder [] = Unit {0}
-AreInOrder (e ∷ older) = (time_of older ≤ e.time) × AreInOrder older
-
--- the turns up to a time
-abbrev pub until : ℕ → List Turn → List Turn
-until s [] = []
-until s (e ∷ older) = if nat_le e.time s then e ∷ older else until s older
-
 -- a live place held the name once what was on its way had arrived
-abbrev pub IsAnswerable : Places → Terms → List Turn → NameValue → Type 0
+abbrev pub IsAnswerable : Places → Terms → List (At Turn) → NameValue → Type 0
 IsAnswerable places terms turns n = (j : ℕ) × Contains terms.live j × (has places (until (settled_by terms) turns) j n ≡ true)
 
 -- each live place has the name once the turns have gone on after a time
-abbrev pub AllHoldBehind : Places → Terms → List Turn → ℕ → NameValue → Type 0
-AllHoldBehind places terms turns time n = (newer later : List Turn) (i : ℕ) → turns ≡ newer ++ later → time < time_of later → Contains terms.live i → has places later i n ≡ true
+abbrev pub AllHoldBehind : Places → Terms → List (At Turn) → ℕ → NameValue → Type 0
+AllHoldBehind places terms turns time n = (newer later : List (At Turn)) (i : ℕ) → turns ≡ newer ++ later → time < time_of later → Contains terms.live i → has places later i n ≡ true
 
 -- ---- one turn of a live place
 
 -- its keeper accepts this
-abbrev pub Accepts : Places → List Turn → Turn → KeeperCall → Type 0
-Accepts places older e call = e.desk.calls ≡ call ∷ (desk_at places older e.place).calls
+abbrev pub Accepts : Places → List (At Turn) → At Turn → KeeperCall → Type 0
+Accepts places older e call = e.event.desk.calls ≡ call ∷ (desk_at places older e.place).calls
 
-pub record IsTurn (places : Places) (terms : Terms) (older : List Turn) (e : Turn) : Type 0 where
+pub record IsTurn (places : Places) (terms : Terms) (older : List (At Turn)) (e : At Turn) : Type 0 where
   -- it accepts one call at most, and what is held stays
-  pub called : (e.desk.calls ≡ (desk_at places older e.place).calls) ⊎ ((call : KeeperCall) × Accepts places older e call)
-  pub kept : (n : NameValue) → has places older e.place n ≡ true → holds e.desk.held n ≡ true
+  pub called : (e.event.desk.calls ≡ (desk_at places older e.place).calls) ⊎ ((call : KeeperCall) × Accepts places older e call)
+  pub kept : (n : NameValue) → has places older e.place n ≡ true → holds e.event.desk.held n ≡ true
   -- a request is heard at a moment of its time, with what is held then
   pub heard : (now asker word : ℕ) (n : NameValue) (held : Bool) → Accepts places older e (Hear now (Request asker n) word held) → IsNowAt terms e.time e.place now × (held ≡ has places older e.place n)
   -- a tick stops what is held, and sends what is due
   pub stops : (now : ℕ) (words : List ℕ) (stopped : List NameValue) → Accepts places older e (GoOn now words stopped) → stopped ≡ stopped_after (places.me e.place) (places.constants e.place) (desk_at places older e.place).calls (desk_at places older e.place).held
   pub sends : (now : ℕ) (words : List ℕ) (stopped : List NameValue) → Accepts places older e (GoOn now words stopped)
-      → (v : Datagram) → Contains (sent_by_tick (places.me e.place) (places.constants e.place) (desk_at places older e.place).calls (desk_at places older e.place).held now) v → Contains e.sent v
+      → (v : Datagram) → Contains (sent_by_tick (places.me e.place) (places.constants e.place) (desk_at places older e.place).calls (desk_at places older e.place).held now) v → Contains e.event.sent v
 
 -- From `quiet` on a name with a request timer is given up only if it may be; what is sent is held, and what is asked for is not.
-pub record IsQuietBut (MayStop : List Turn → Turn → NameValue → Type 0) (places : Places) (older : List Turn) (e : Turn) : Type 0 where
+pub record IsQuietBut (MayStop : List (At Turn) → At Turn → NameValue → Type 0) (places : Places) (older : List (At Turn)) (e : At Turn) : Type 0 where
   pub goes_on : (now : ℕ) (n : NameValue) → Accepts places older e (GiveUp now n true) → MayStop older e n
-  pub held : (d : DrawopValue) → Contains e.sent (Draw d) → has places older e.place d.name ≡ true
-  pub asked : (asker : ℕ) (n : NameValue) → Contains e.sent (Request asker n) → (asker ≡ places.me e.place) × (has places older e.place n ≡ false)
+  pub held : (d : DrawopValue) → Contains e.event.sent (Draw d) → has places older e.place d.name ≡ true
+  pub asked : (asker : ℕ) (n : NameValue) → Contains e.event.sent (Request asker n) → (asker ≡ places.me e.place) × (has places older e.place n ≡ false)
 
 -- any other name, and this one if it is not held
-abbrev pub IsOtherOrLacked : Places → NameValue → List Turn → Turn → NameValue → Type 0
+abbrev pub IsOtherOrLacked : Places → NameValue → List (At Turn) → At Turn → NameValue → Type 0
 IsOtherOrLacked places n older e m = m ≡ n → has places older e.place n ≡ false
 
 -- ---- the network
 
 -- a datagram was sent so shortly before a time
-pub record WasSent (turns : List Turn) (time within : ℕ) (v : Datagram) : Type 0 where
-  pub newer : List Turn
-  pub e : Turn
-  pub older : List Turn
+pub record WasSent (turns : List (At Turn)) (time within : ℕ) (v : Datagram) : Type 0 where
+  pub newer : List (At Turn)
+  pub e : At Turn
+  pub older : List (At Turn)
   pub split : turns ≡ newer ++ e ∷ older
   pub soon : time ≤ e.time + within
-  pub sent : Contains e.sent v
+  pub sent : Contains e.event.sent v
 
 -- a request that was sent is heard at a place
-pub record IsHeardAt (places : Places) (newer : List Turn) (e : Turn) (older : List Turn) (j within asker : ℕ) (n : NameValue) : Type 0 where
-  pub later : List Turn
-  pub arrival : Turn
-  pub between : List Turn
+pub record IsHeardAt (places : Places) (newer : List (At Turn)) (e : At Turn) (older : List (At Turn)) (j within asker : ℕ) (n : NameValue) : Type 0 where
+  pub later : List (At Turn)
+  pub arrival : At Turn
+  pub between : List (At Turn)
   pub split : newer ≡ later ++ arrival ∷ between
   pub place : arrival.place ≡ j
   pub soon : arrival.time ≤ e.time + within
@@ -154,18 +138,18 @@ pub record IsHeardAt (places : Places) (newer : List Turn) (e : Turn) (older : L
   pub held : Bool
   pub heard : Accepts places (between ++ e ∷ older) arrival (Hear now (Request asker n) word held)
 
-pub record IsDelivered (places : Places) (terms : Terms) (turns : List Turn) : Type 0 where
+pub record IsDelivered (places : Places) (terms : Terms) (turns : List (At Turn)) : Type 0 where
   -- a drawop that is sent is held at each live place in time
-  pub drawops : (newer older : List Turn) (e : Turn) (d : DrawopValue) → turns ≡ newer ++ e ∷ older → terms.quiet < e.time → Contains e.sent (Draw d) → AllHoldBehind places terms turns (e.time + terms.delivery) d.name
+  pub drawops : (newer older : List (At Turn)) (e : At Turn) (d : DrawopValue) → turns ≡ newer ++ e ∷ older → terms.quiet < e.time → Contains e.event.sent (Draw d) → AllHoldBehind places terms turns (e.time + terms.delivery) d.name
   -- a request is heard at each other live place that holds the name
-  pub requests : (newer older : List Turn) (e : Turn) (asker : ℕ) (n : NameValue) (j : ℕ) → turns ≡ newer ++ e ∷ older → terms.quiet < e.time → Contains e.sent (Request asker n) → Contains terms.live j → e.place ≢ j → has places older j n ≡ true → e.time + terms.delivery < time_of turns
+  pub requests : (newer older : List (At Turn)) (e : At Turn) (asker : ℕ) (n : NameValue) (j : ℕ) → turns ≡ newer ++ e ∷ older → terms.quiet < e.time → Contains e.event.sent (Request asker n) → Contains terms.live j → e.place ≢ j → has places older j n ≡ true → e.time + terms.delivery < time_of turns
       → IsHeardAt places newer e older j terms.delivery asker n
 
 -- What comes was sent within the time of delivery.
-pub record IsFresh (places : Places) (terms : Terms) (turns : List Turn) : Type 0 where
-  pub drawops : (newer older : List Turn) (e : Turn) (now : ℕ) (names : List NameValue) (n : NameValue) → turns ≡ newer ++ e ∷ older → settled_by terms < e.time → Accepts places older e (Arrive now names) → Contains names n
+pub record IsFresh (places : Places) (terms : Terms) (turns : List (At Turn)) : Type 0 where
+  pub drawops : (newer older : List (At Turn)) (e : At Turn) (now : ℕ) (names : List NameValue) (n : NameValue) → turns ≡ newer ++ e ∷ older → settled_by terms < e.time → Accepts places older e (Arrive now names) → Contains names n
       → (d : DrawopValue) × (d.name ≡ n) × WasSent (e ∷ older) e.time terms.delivery (Draw d)
-  pub requests : (newer older : List Turn) (e : Turn) (now asker word : ℕ) (held : Bool) (n : NameValue) → turns ≡ newer ++ e ∷ older → settled_by terms < e.time → Accepts places older e (Hear now (Request asker n) word held)
+  pub requests : (newer older : List (At Turn)) (e : At Turn) (now asker word : ℕ) (held : Bool) (n : NameValue) → turns ≡ newer ++ e ∷ older → settled_by terms < e.time → Accepts places older e (Hear now (Request asker n) word held)
       → WasSent (e ∷ older) e.time terms.delivery (Request asker n)
 
 -- ---- drivers
@@ -178,25 +162,25 @@ pub record AreNotOverdue (s : Timers) (now late : ℕ) : Type 0 where
 -- ---- all of it
 
 -- What live places do, each by itself.
-pub record AreTurns (places : Places) (terms : Terms) (turns : List Turn) : Type 0 where
+pub record AreTurns (places : Places) (terms : Terms) (turns : List (At Turn)) : Type 0 where
   pub apart : (i j : ℕ) → Contains terms.live i → Contains terms.live j → places.me i ≡ places.me j → i ≡ j
-  pub turn : (newer older : List Turn) (e : Turn) → turns ≡ newer ++ e ∷ older → Contains terms.live e.place → IsTurn places terms older e
+  pub turn : (newer older : List (At Turn)) (e : At Turn) → turns ≡ newer ++ e ∷ older → Contains terms.live e.place → IsTurn places terms older e
   -- from `quiet` on no call goes by a delay above `far`; the answers that stand at `quiet` end as soon as if none had before
-  pub within : (newer older : List Turn) (e : Turn) (call : KeeperCall) → turns ≡ newer ++ e ∷ older → Contains terms.live e.place → terms.quiet < e.time → Accepts places older e call
+  pub within : (newer older : List (At Turn)) (e : At Turn) (call : KeeperCall) → turns ≡ newer ++ e ∷ older → Contains terms.live e.place → terms.quiet < e.time → Accepts places older e call
       → IsWithin terms.far (longest terms) (places.me e.place) (places.constants e.place) call (desk_at places older e.place).calls
   pub near : (i : ℕ) (n : NameValue) → Contains terms.live i → AreAnswersNear (longest terms) terms.far (terms.quiet - terms.lag i) (timers_there places (until terms.quiet turns) i n)
   -- at first no clock is ahead of `quiet`, nor later of the time
-  pub clock : (newer older : List Turn) (i : ℕ) → turns ≡ newer ++ older → Contains terms.live i → moment_at (desk_at places older i).calls + terms.lag i ≤ max (time_of older) terms.quiet
-  pub history : (newer older : List Turn) (i : ℕ) → turns ≡ newer ++ older → Contains terms.live i → IsHistory (desk_at places older i).held
-  pub lacking : (newer older : List Turn) (i : ℕ) (n : NameValue) → turns ≡ newer ++ older → Contains terms.live i → has places older i n ≡ true → (timers_there places older i n).ask ≡ None
+  pub clock : (newer older : List (At Turn)) (i : ℕ) → turns ≡ newer ++ older → Contains terms.live i → moment_at (desk_at places older i).calls + terms.lag i ≤ max (time_of older) terms.quiet
+  pub history : (newer older : List (At Turn)) (i : ℕ) → turns ≡ newer ++ older → Contains terms.live i → IsHistory (desk_at places older i).held
+  pub lacking : (newer older : List (At Turn)) (i : ℕ) (n : NameValue) → turns ≡ newer ++ older → Contains terms.live i → has places older i n ≡ true → (timers_there places older i n).ask ≡ None
 
 -- They keep to the terms, and give up names only if they may.
-pub record KeepTimeBut (MayStop : List Turn → Turn → NameValue → Type 0) (places : Places) (terms : Terms) (turns : List Turn) : Type 0 where
+pub record KeepTimeBut (MayStop : List (At Turn) → At Turn → NameValue → Type 0) (places : Places) (terms : Terms) (turns : List (At Turn)) : Type 0 where
   pub order : AreInOrder turns
   pub are : AreTurns places terms turns
-  pub alone : (newer older : List Turn) (e : Turn) → turns ≡ newer ++ e ∷ older → terms.quiet < e.time → Contains terms.live e.place
-  pub quiet : (newer older : List Turn) (e : Turn) → turns ≡ newer ++ e ∷ older → terms.quiet < e.time → IsQuietBut MayStop places older e
+  pub alone : (newer older : List (At Turn)) (e : At Turn) → turns ≡ newer ++ e ∷ older → terms.quiet < e.time → Contains terms.live e.place
+  pub quiet : (newer older : List (At Turn)) (e : At Turn) → turns ≡ newer ++ e ∷ older → terms.quiet < e.time → IsQuietBut MayStop places older e
   pub delivered : IsDelivered places terms turns
   pub fresh : IsFresh places terms turns
   -- from `quiet` on a tick comes once a timer is due: until a turn comes, no timer that stands is overdue
-  pub soon : (newer older : List Turn) (e : Turn) (i : ℕ) (n : NameValue) → turns ≡ newer ++ e ∷ older → Contains terms.live i → terms.quiet < e.time → AreNotOverdue (timers_there places older i n) e.time (terms.lag i + terms.late)
+  pub soon : (newer older : List (At Turn)) (e : At Turn) (i : ℕ) (n : NameValue) → turns ≡ newer ++ e ∷ older → Contains terms.live i → terms.quiet < e.time → AreNotOverdue (timers_there places older i n) e.time (terms.lag i + terms.late)
