@@ -103,7 +103,7 @@ fn drive(
 }
 
 /// What it does for a line that does not begin to judge.
-#[tactic(auto, using(crate::proofs::KeptReplies::drives_open))]
+#[tactic(auto, using(crate::proofs::EachKind::drives_line))]
 fn take(
     alloc: Global,
     member: Member,
