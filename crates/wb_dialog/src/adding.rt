@@ -37,8 +37,8 @@ fn second_wrong(other: WordFault, read: &Result<Adding, WrongWord>) -> LineFault
         fault: other,
     };
     match read {
-        Err(wrong) if wrong.place <= 1 => LineFault::Word(*wrong),
-        _ => LineFault::Word(second),
+        Ok(_) => LineFault::Word(second),
+        Err(wrong) => LineFault::Word(if wrong.place <= 1 { *wrong } else { second }),
     }
 }
 

@@ -1,13 +1,14 @@
 //! What a line of a driver says: the table of first words.
-ghost use Rattle.std.specs.Prelude.{◌≡◌, IfOk, Result};
+ghost use Rattle.std.specs.Prelude.{◌≡◌, IfOk};
 ghost use Rattle.wb_names.specs.Moments.{IsMoment};
 ghost use Rattle.wb_words.specs.Reading.{reading as reading_words};
 ghost use Rattle.wb_lines.specs.Words.{words};
-ghost use Rattle.wb_commands.specs.declared.fault.LineFault.{LineFault as Fault};
+ghost use Rattle.wb_commands.specs.declared.fault.LineFault.TheVariants as faults;
 ghost use Rattle.wb_dialog.specs.JudgedLines.{IsJudgeLine, own_row};
 ghost use Rattle.wb_dialog.specs.Lines.{IsSaidWithin, IsWithin, came, came_by, common_row, judged_by, keep_line, moment_of, name, row, row_of, said_line, said_of, unanswered_by, unless_own};
 ghost use Rattle.wb_dialog.specs.Records.{Reads};
 ghost use Rattle.wb_dialog.specs.Words.{three_of};
+ghost use Rattle.wb_dialog.specs.declared.said.Said.TheVariants as saids;
 
 use crate::adding::add_line;
 use crate::fault::{Refusal, Unanswered};
@@ -131,32 +132,23 @@ fn common_row(alloc: Global, line: &[u8], word: &[u8], rest: &[u8]) -> Result<Dr
     }
 }
 
-/// What was read, or its first fault; unless memory ran out.
-fn settled<X: Drop>(read: Result<X, Untaken>) -> Result<Result<X, LineFault>, AllocError>
-    ensures { IfOk result (λ settled. (said : Result X Fault) → Reads read said → settled ≡ said) }
-{
-    match read {
-        Ok(line) => Ok(Ok(line)),
-        Err(Untaken::Line(fault)) => Ok(Err(fault)),
-        Err(Untaken::Memory) => Err(AllocError),
-    }
-}
-
 /// Bytes came in, from an origin or without one.
 fn came_line(alloc: Global, rest: &[u8]) -> Result<Said, AllocError>
     ensures line { IfOk result (λ said.
         said ≡ came_by (words rest.now) (three_of (words rest.now))) }
     ensures within { IfOk result IsSaidWithin }
 {
-    match three_words(rest) {
-        None => {
-            let read = settled(came(alloc, rest))?;
-            Ok(Said::Unjudged(read, LineFault::Words))
-        }
-        Some((now, place, digits)) => {
-            let read = settled(came_from(alloc, now, place, digits))?;
-            Ok(Said::Own(read, LineFault::Words))
-        }
+    let Some((now, place, digits)) = three_words(rest) else {
+        return match came(alloc, rest) {
+            Ok(line) => Ok(Said::Unjudged(Ok(line), LineFault::Words)),
+            Err(Untaken::Line(fault)) => Ok(Said::Unjudged(Err(fault), LineFault::Words)),
+            Err(Untaken::Memory) => Err(AllocError),
+        };
+    };
+    match came_from(alloc, now, place, digits) {
+        Ok(line) => Ok(Said::Own(Ok(line), LineFault::Words)),
+        Err(Untaken::Line(fault)) => Ok(Said::Own(Err(fault), LineFault::Words)),
+        Err(Untaken::Memory) => Err(AllocError),
     }
 }
 
@@ -172,18 +164,31 @@ fn judged_by(read: Result<JudgeLine, LineFault>) -> Said
     }
 }
 
+/// A line that a judged host alone has.
+fn own_line(alloc: Global, line: &[u8], word: &[u8], rest: &[u8]) -> Result<Said, AllocError>
+    ensures line { IfOk result (λ said.
+        said ≡ saids.Own (own_row line.now word.now (words rest.now)) faults.Unknown) }
+    ensures within { IfOk result IsSaidWithin }
+{
+    match own_row(alloc, line, word, rest) {
+        Ok(line) => Ok(Said::Own(Ok(line), LineFault::Unknown)),
+        Err(Untaken::Line(fault)) => Ok(Said::Own(Err(fault), LineFault::Unknown)),
+        Err(Untaken::Memory) => Err(AllocError),
+    }
+}
+
 /// A line of any host, or, if none has this word, one that a judged host has.
 fn common_or_own(alloc: Global, line: &[u8], word: &[u8], rest: &[u8]) -> Result<Said, AllocError>
     ensures line { IfOk result (λ said. said ≡ unless_own
-        (own_row line.now word.now (words rest.now)) (common_row line.now word.now (words rest.now))) }
+        (own_row line.now word.now (words rest.now))
+        (common_row line.now word.now (words rest.now))) }
     ensures within { IfOk result IsSaidWithin }
 {
-    match settled(common_row(alloc, line, word, rest))? {
-        Err(LineFault::Unknown) => {
-            let read = settled(own_row(alloc, line, word, rest))?;
-            Ok(Said::Own(read, LineFault::Unknown))
-        }
-        read => Ok(Said::Common(read)),
+    match common_row(alloc, line, word, rest) {
+        Ok(line) => Ok(Said::Common(Ok(line))),
+        Err(Untaken::Line(LineFault::Unknown)) => own_line(alloc, line, word, rest),
+        Err(Untaken::Line(fault)) => Ok(Said::Common(Err(fault))),
+        Err(Untaken::Memory) => Err(AllocError),
     }
 }
 
