@@ -3,8 +3,6 @@ pub mod Closings
 pub mod Transcripts
 pub mod DialogLaws
 pub mod OwnNumbers
-pub mod SaidLines
-pub mod FirstWords
 pub mod ScriptLines
 pub mod DrivenHosts
 pub mod KeptReplies

@@ -8,12 +8,10 @@ use Rattle.wb_judging.proofs.Numbers.{number_through}
 use Rattle.wb_member.specs.declared.calls.Call.TheVariants as calls
 use Rattle.wb_commands.specs.declared.command.Command.{Command}
 use Rattle.wb_commands.specs.declared.command.Command.TheVariants as lines
-use Rattle.wb_dialog.specs.declared.fault.Refusal.{Refusal}
 use Rattle.wb_dialog.specs.declared.line.DriverLine.{DriverLine}
 use Rattle.wb_dialog.specs.declared.line.DriverLine.TheVariants.{Script, Came, Add}
 use Rattle.wb_dialog.specs.Dialog.{Answer, gives, refuses, answer_at}
 use Rattle.wb_dialog.specs.Hosting.{Driven, Kept, Reply, prints, denies, came_text, kept_does, kept_shows, kept_reply, unsent_text}
-use Rattle.wb_dialog.specs.Kinds.{said_reply}
 
 -- after a reply it is self-managing, and has this number
 abbrev pub IsKept : ℕ → Reply → Type 0
@@ -39,8 +37,8 @@ scripted (lines.Question query) k = shown (answer_at (Script (lines.Question que
 scripted line k = tt
 
 -- whatever a line says
-pub stays_kept : (said : Result DriverLine Refusal) (k : Keeping) → IsKept k.host.is.number (said_reply said k)
-stays_kept (Ok (Script line)) k = scripted line k
-stays_kept (Ok (Came now v)) k = done (came_fault now v k) (came now v) (came_text v (came_as v k.host)) k
-stays_kept (Ok (Add a)) k = done (add_fault a.moment a.page a.time a.op k) (adds a.moment a.page a.time a.op) (unsent_text (drawn_as a.page a.time a.op k.host)) k
-stays_kept said k = search
+pub stays_kept : (line : DriverLine) (k : Keeping) → IsKept k.host.is.number (kept_reply line k)
+stays_kept (Script line) k = scripted line k
+stays_kept (Came now v) k = done (came_fault now v k) (came now v) (came_text v (came_as v k.host)) k
+stays_kept (Add a) k = done (add_fault a.moment a.page a.time a.op k) (adds a.moment a.page a.time a.op) (unsent_text (drawn_as a.page a.time a.op k.host)) k
+stays_kept line k = search

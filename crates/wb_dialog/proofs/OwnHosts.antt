@@ -9,17 +9,20 @@ use Rattle.wb_judging.proofs.Numbers.{own_stays}
 use Rattle.wb_lines.specs.Handling.{Met, whole, too_long}
 use Rattle.wb_lines.specs.Input.{InputLine, content}
 use Rattle.wb_lines.specs.Taking.{met}
-use Rattle.wb_commands.specs.declared.fault.LineFault.{LineFault}
-use Rattle.wb_dialog.specs.declared.fault.Refusal.{Refusal}
-use Rattle.wb_dialog.specs.declared.judged_line.JudgeLine.{JudgeLine}
+use Rattle.wb_judging.specs.declared.call.Call.TheVariants.{Passed}
+use Rattle.wb_judging.specs.declared.news.News.TheVariants.{Nothing}
+use Rattle.wb_member.specs.declared.calls.Call.TheVariants as calls
+use Rattle.wb_commands.specs.declared.command.Command.TheVariants as lines
 use Rattle.wb_dialog.specs.declared.judged_line.JudgedLine.{JudgedLine}
-use Rattle.wb_dialog.specs.declared.judged_line.JudgedLine.TheVariants.{Call as Calls, Skip, Members, List as Lists, Lacks, Since, Paint, Words, Common}
+use Rattle.wb_dialog.specs.declared.judged_line.JudgedLine.TheVariants.{Call as Calls, Skip, Members, List as Lists, Lacks, Since, Paint, Words}
 use Rattle.wb_dialog.specs.declared.line.DriverLine.{DriverLine}
-use Rattle.wb_dialog.specs.Hosting.{Host, Driven, Kept, Reply, prints, denies, reply}
+use Rattle.wb_dialog.specs.declared.line.DriverLine.TheVariants.{Script}
+use Rattle.wb_dialog.specs.declared.said.Said.{Said}
+use Rattle.wb_dialog.specs.declared.said.Said.TheVariants as saids
+use Rattle.wb_dialog.specs.Hosting.{Host, Driven, Kept, Reply, prints, denies, kept_reply, reply}
 use Rattle.wb_dialog.specs.Judged.{Act, act, did, does, fails}
-use Rattle.wb_dialog.specs.JudgedLines.{judge_line_of, judged_line_of}
-use Rattle.wb_dialog.specs.Kinds.{Kind, unjudged, judged, Response, Standing, after, as_judged, as_kept, as_unjudged, common_response, judge_response, judged_response, kind_after, line_response, response_by, response_of, said_reply, standing_from, unopened}
-use Rattle.wb_dialog.specs.Lines.{line_of}
+use Rattle.wb_dialog.specs.Kinds.{Kind, unjudged, judged, Response, Standing, after, as_judged, as_kept, as_unjudged, common_response, judged_response, kind_after, response_by, response_of, standing_from, unjudged_response, unopened}
+use Rattle.wb_dialog.specs.Lines.{as_refusal, said_of, unjudged_line}
 use Rattle.wb_dialog.proofs.Numbers.{IsKept, stays_kept}
 
 -- ---- a judged member
@@ -45,7 +48,6 @@ leads_own (Lacks page) h own = own
 leads_own (Since page count) h own = own
 leads_own (Paint page width height) h own = own
 leads_own (Words v) h own = own
-leads_own Common h own = own
 
 -- ---- a host
 
@@ -61,9 +63,16 @@ by_act : (s : Kind) (a : Act) → AreOwn s → LeadsOwn a → Stays s (as_judged
 by_act s (does next text) own leads = leads
 by_act s (fails e) own leads = own
 
-by_unjudged : (s : Option Host) (r : Reply) → Stays (unjudged s) (as_unjudged r)
-by_unjudged s (prints next text) = tt
-by_unjudged s (denies e) = tt
+by_reply : (s : Option Host) (r : Reply) → Stays (unjudged s) (as_unjudged r)
+by_reply s (prints next text) = tt
+by_reply s (denies e) = tt
+
+by_unjudged : (tuning : Tuning) (said : Said) (s : Option Host) → Stays (unjudged s) (unjudged_response tuning said s)
+by_unjudged tuning (saids.Judge line) None = tt
+by_unjudged tuning (saids.Judge line) (Some (Driven host None)) = tt
+by_unjudged tuning (saids.Judge line) (Some (Driven host (Some board))) = refl
+by_unjudged tuning (saids.Judge line) (Some (Kept k)) = tt
+by_unjudged tuning said s = by_reply s (reply tuning s (as_refusal (unjudged_line said)))
 
 by_kept : (h : Judged) (r : Reply) → IsOwn h → IsKept h.kept.host.is.number r → Stays (judged h) (as_kept h.judge r)
 by_kept h (prints (Some (Kept k)) text) own kept = own ∙ sym kept
@@ -71,33 +80,24 @@ by_kept h (prints (Some (Driven host board)) text) own kept = absurd kept
 by_kept h (prints None text) own kept = absurd kept
 by_kept h (denies e) own kept = own
 
-by_common : (tuning : Tuning) (s : Kind) (said : Result DriverLine Refusal) → AreOwn s → Stays s (common_response tuning s said)
-by_common tuning (unjudged s) said own = by_unjudged s (reply tuning s said)
-by_common tuning (judged h) said own = by_kept h (said_reply said h.kept) own (stays_kept said h.kept)
+by_common : (line : DriverLine) (h : Judged) → IsOwn h → Stays (judged h) (common_response line h)
+by_common (Script (lines.Call (calls.Tick now))) h own = by_act (judged h) (act (Calls (Passed now Nothing)) h) own (leads_own (Calls (Passed now Nothing)) h own)
+by_common line h own = by_kept h (kept_reply line h.kept) own (stays_kept line h.kept)
 
-by_judged : (tuning : Tuning) (h : Judged) (line : List ℕ) (read : Result JudgedLine LineFault) → IsOwn h → Stays (judged h) (judged_response tuning h line read)
-by_judged tuning h line (Ok Common) own = by_common tuning (judged h) (line_of line) own
-by_judged tuning h line (Ok said) own = by_act (judged h) (act said h) own (leads_own said h own)
-by_judged tuning h line (Err e) own = own
+by_judged : (said : Said) (h : Judged) → IsOwn h → Stays (judged h) (judged_response said h)
+by_judged (saids.Common (Ok line)) h own = by_common line h own
+by_judged (saids.Common (Err e)) h own = own
+by_judged (saids.Own (Ok line) other) h own = by_act (judged h) (act line h) own (leads_own line h own)
+by_judged (saids.Own (Err e) other) h own = own
+by_judged (saids.Unjudged read other) h own = own
+by_judged (saids.Judge line) h own = own
 
-by_line : (tuning : Tuning) (s : Kind) (line : List ℕ) → AreOwn s → Stays s (line_response tuning s line)
-by_line tuning (unjudged s) line own = by_common tuning (unjudged s) (line_of line) own
-by_line tuning (judged h) line own = by_judged tuning h line (judged_line_of line) own
-
-by_judge : (tuning : Tuning) (line : JudgeLine) (s : Kind) → AreOwn s → Stays s (judge_response tuning line s)
-by_judge tuning line (unjudged None) own = tt
-by_judge tuning line (unjudged (Some (Driven host None))) own = tt
-by_judge tuning line (unjudged (Some (Driven host (Some board)))) own = refl
-by_judge tuning line (unjudged (Some (Kept k))) own = tt
-by_judge tuning line (judged h) own = own
-
-by_said : (tuning : Tuning) (s : Kind) (line : List ℕ) (said : Option (Result JudgeLine LineFault)) → AreOwn s → Stays s (response_by tuning s line said)
-by_said tuning s line None own = by_line tuning s line own
-by_said tuning s line (Some (Ok said)) own = by_judge tuning said s own
-by_said tuning s line (Some (Err e)) own = own
+by_said : (tuning : Tuning) (s : Kind) (said : Said) → AreOwn s → Stays s (response_by tuning s said)
+by_said tuning (unjudged s) said own = by_unjudged tuning said s
+by_said tuning (judged h) said own = by_judged said h own
 
 by_met : (s : Standing) (m : Met) → AreOwn s.kind → Stays s.kind (response_of s m)
-by_met s (whole line) own = by_said s.tuning s.kind (content line) (judge_line_of (content line)) own
+by_met s (whole line) own = by_said s.tuning s.kind (said_of (content line)) own
 by_met s too_long own = own
 
 through : (s : Standing) (lines : List InputLine) → AreOwn s.kind → AreOwn (standing_from s lines).kind

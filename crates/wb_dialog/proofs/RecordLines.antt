@@ -1,5 +1,5 @@
 -- What is recorded is read as what it was.
-use Rattle.std.proofs.Common.{◌≡◌, ℕ, ◌+◌, ◌*◌, ◌-◌, ◌^◌, ◌<◌, ◌≤◌, Bool, true, false, List, [], ◌∷◌, ◌++◌, length, Some, Ok, refl, sym, ap, ◌∙◌, append_assoc, append-nil, arith}
+use Rattle.std.proofs.Common.{◌≡◌, ℕ, ◌+◌, ◌*◌, ◌-◌, ◌^◌, ◌<◌, ◌≤◌, Bool, true, false, List, [], ◌∷◌, ◌++◌, length, Some, Ok, Err, refl, sym, ap, ◌∙◌, append_assoc, append-nil, arith}
 use Rattle.std.specs.Prelude.{All, codes, decimal, nat_eq}
 use Rattle.std.specs.Char.{digit_value}
 use Rattle.std.specs.Str.Parse.{AllDigits, digits_value, digits_value_after}
@@ -21,12 +21,15 @@ use Rattle.wb_lines.specs.Words.{number_from, number_of, words, words_after}
 use Rattle.wb_member.specs.declared.calls.Call.TheVariants.{Tick}
 use Rattle.wb_commands.specs.declared.command.Command.{Command}
 use Rattle.wb_commands.specs.declared.command.Command.TheVariants as lines
-use Rattle.wb_commands.specs.Parsing.{script_command, handed_in, script_line_of, tick, ◌>>=◌}
+use Rattle.wb_commands.specs.Parsing.{handed_in, line_of_page, script_command, script_line_of, script_question, tick, ◌>>=◌}
+use Rattle.wb_commands.specs.declared.fault.LineFault.TheVariants as faults
 use Rattle.wb_commands.specs.SentLines.{digits_of}
 use Rattle.wb_commands.proofs.SentDigits.{taken}
 use Rattle.wb_judging.specs.declared.record.RecordLine.{RecordLine}
 use Rattle.wb_judging.specs.declared.record.RecordLine.TheVariants as records
-use Rattle.wb_dialog.specs.JudgedLines.{held_by}
+use Rattle.wb_dialog.specs.JudgedLines.{held_by, held_line, own_row}
+use Rattle.wb_dialog.specs.Lines.{common_row, row, said_of, unless_script}
+use Rattle.wb_dialog.specs.declared.said.Said.TheVariants.{Own}
 use Rattle.wb_dialog.specs.RecordLaws.{IsRecord, RecordsAreRead}
 use Rattle.wb_dialog.specs.Records.{owner_line, record_of, recorded, said}
 use Rattle.wb_dialog.specs.Texts.{record_text}
@@ -137,5 +140,16 @@ again (records.Mark speaker page mark) fits =
     recorded_as (spelled v) (begins_datagram (spelled v)) (handed_in v) (taken v fits).by_words refl
 again (records.Owner n place owner) fits = ap (λ r. r >>= λ owner'. Ok (Some owner')) (owner_again n place owner fits.0 fits.1 fits.2)
 
+-- behind the word `held`, which no script has
+no_script : (rest : List ℕ) → script_line_of (codes "held " ++ rest) ≡ Err faults.Unknown
+unfolding is_kind line_of_page script_command script_question
+no_script rest =
+    let other : begins_datagram (codes "held " ++ rest) ≡ false = no_kind_first (codes "held") _ refl in
+    rw other refl
+
+held : (rest : List ℕ) → said_of (codes "held " ++ rest) ≡ Own (held_line rest) faults.Unknown
+unfolding common_row own_row row
+held rest = ap (unless_script (codes "held " ++ rest)) (no_script rest)
+
 pub records_are_read : RecordsAreRead
-records_are_read line fits = ap (λ r. r >>= λ record'. Ok (held_by record')) (again line fits)
+records_are_read line fits = held (record_text line) ∙ ap (λ r. Own (r >>= λ record'. Ok (held_by record')) faults.Unknown) (again line fits)

@@ -10,8 +10,10 @@ use Rattle.wb_lines.specs.Taking.{is_taken, met}
 use Rattle.wb_dialog.specs.Dialog.{answered_lines}
 use Rattle.wb_dialog.specs.Hosting as hosting
 use Rattle.wb_dialog.specs.Hosting.{Host, Reply, denies, host_after, prints}
-use Rattle.wb_dialog.specs.Kinds.{Kind, unjudged, Response, as_unjudged, block_of, blocks_from, kind_after, response_by, response_of}
+use Rattle.wb_dialog.specs.Kinds.{Kind, unjudged, Response, as_unjudged, block_of, blocks_from, kind_after, response_of}
 use Rattle.wb_dialog.specs.Laws.{BeginsNoJudge, UnjudgedAsBefore}
+use Rattle.wb_dialog.specs.Lines.{said_of}
+use Rattle.wb_dialog.proofs.EachKind.{as_replied}
 
 -- what is written for a reply, and the host that it leads to
 record IsAlike (s : Option Host) (r : Response) (t : Reply) : Type 0 where
@@ -25,7 +27,7 @@ replies_alike s (denies e) = record { block = refl; kind = refl }
 alike : (tuning : Tuning) (s : Option Host) (m : Met) → BeginsNoJudge m → IsAlike s (response_of (record { tuning = tuning; kind = unjudged s }) m) (hosting.reply_of (record { tuning = tuning; host = s }) m)
 alike tuning s (whole line) plainly =
     let t = hosting.reply_of (record { tuning = tuning; host = s }) (whole line) in
-    subst (λ (r : Response). IsAlike s r t) (sym (ap (response_by tuning (unjudged s) (content line)) plainly)) (replies_alike s t)
+    subst (λ (r : Response). IsAlike s r t) (sym (as_replied tuning s (said_of (content line)) plainly)) (replies_alike s t)
 alike tuning s too_long plainly = record { block = refl; kind = refl }
 
 abbrev NoneBegins : List InputLine → Type 0

@@ -15,18 +15,24 @@ use Rattle.wb_judging.specs.Performing.{IsJudgedAt, JudgedValue}
 use Rattle.wb_judging.specs.declared.judged_fault.JudgedFault.{JudgedFault}
 use Rattle.wb_judging.specs.declared.judged_fault.JudgedFault.TheVariants as judged_faults
 use Rattle.wb_member.specs.Holding.{MemberValue, IsOpenAt, MayBeOpenAt}
+use Rattle.wb_commands.specs.declared.fault.LineFault.{LineFault}
+use Rattle.wb_dialog.specs.declared.fault.Refusal.TheVariants as refusals
 use Rattle.wb_dialog.specs.declared.fault.Unanswered.{Unanswered}
 use Rattle.wb_dialog.specs.declared.fault.Unanswered.TheVariants as unanswered
 use Rattle.wb_dialog.specs.declared.fault.HostFault.{HostFault}
 use Rattle.wb_dialog.specs.declared.fault.HostFault.TheVariants as host_faults
+use Rattle.wb_dialog.specs.declared.line.DriverLine.{DriverLine}
+use Rattle.wb_dialog.specs.declared.said.Said.{Said}
+use Rattle.wb_dialog.specs.declared.said.Said.TheVariants as saids
 use Rattle.wb_dialog.specs.declared.told.Told.{Told}
 use Rattle.wb_dialog.specs.declared.opened.Host.{Host as HostValue}
 use Rattle.wb_dialog.specs.declared.opened.Host.TheVariants as values
 use Rattle.wb_dialog.specs.Dialog.{Answer, gives, refuses}
 use Rattle.wb_dialog.specs.Boards.{BoardValue}
-use Rattle.wb_dialog.specs.Hosting.{Host, Driven, Kept, Reply, prints, denies, kept_refusal}
+use Rattle.wb_dialog.specs.Hosting.{Host, Driven, Kept, Reply, prints, denies, kept_refusal, kept_reply}
 use Rattle.wb_dialog.specs.Judged.{Act, does, fails, drawn_target, judged_refusal}
 use Rattle.wb_dialog.specs.Inside.Told.{Says}
+use Rattle.wb_dialog.specs.Lines.{unjudged_line}
 use Rattle.wb_dialog.specs.Kinds.{Kind, unjudged, judged, Response, answers, rejects, Standing, block_of, kind_after}
 
 -- The constants of the timers, and the host, once its board is open.
@@ -109,6 +115,15 @@ unanswered_of place fault = unanswered.Refused (kept_refusal place fault)
 abbrev pub DoesKept : KeptValue → KeptValue → Result Told Unanswered → (Keeping → Reply) → Type 0
 DoesKept old new result reply = (k : Keeping) → IsKeptAt old k → DoesReply (Some (Kept k)) (Some (values.Kept new)) result (reply k)
 
+-- what such a member replies to a line, by what that says
+abbrev pub kept_said : Result DriverLine LineFault → Keeping → Reply
+kept_said (Ok line) k = kept_reply line k
+kept_said (Err e) k = denies (refusals.Line e)
+
+abbrev pub kept_response : Said → Keeping → Reply
+kept_response (saids.Judge line) k = denies refusals.Kept
+kept_response said k = kept_said (unjudged_line said) k
+
 -- ---- a judged member
 
 -- why a line is not done, by why a judged member does not do it
@@ -151,6 +166,10 @@ Leads s new (Err unanswered.Memory) r = Unit {0}
 -- The same at each host at which one was.
 abbrev pub LeadsFrom : Option HostValue → Option HostValue → Result Told Unanswered → (Kind → Response) → Type 0
 LeadsFrom old new result response = (s : Kind) → IsKindAt old s → Leads s new result (response s)
+
+-- The same at each judged member at which one was.
+abbrev pub LeadsJudged : JudgedValue → HostValue → Result Told Unanswered → (Judged → Response) → Type 0
+LeadsJudged old new result response = (h : Judged) → IsJudgedAt old h → Leads (judged h) (Some new) result (response h)
 
 -- So it is at an open host, whatever the constants of the timers of a board that would be opened.
 abbrev pub LeadsOpen : HostValue → HostValue → Result Told Unanswered → (Tuning → Kind → Response) → Type 0

@@ -20,7 +20,7 @@ use Rattle.wb_dialog.specs.Boards.{BoardValue}
 use Rattle.wb_dialog.specs.declared.fault.Refusal.{Refusal}
 use Rattle.wb_dialog.specs.declared.judged_line.JudgeLine.{JudgeLine}
 use Rattle.wb_dialog.specs.declared.judged_line.JudgedLine.{JudgedLine}
-use Rattle.wb_dialog.specs.declared.judged_line.JudgedLine.TheVariants.{Call as Calls, Skip, Members, List as Lists, Paint, Since, Lacks, Words, Common}
+use Rattle.wb_dialog.specs.declared.judged_line.JudgedLine.TheVariants.{Call as Calls, Skip, Members, List as Lists, Paint, Since, Lacks, Words}
 use Rattle.wb_dialog.specs.Listing.{listed_first}
 use Rattle.wb_dialog.specs.declared.fault.Refusal.TheVariants.{Twin, Full}
 use Rattle.wb_dialog.specs.Hosting.{kept_refusal}
@@ -61,7 +61,6 @@ act (Paint page width height) h = does h (paint_text (shown page h.kept.host) wi
 act (Since page count) h = does h (since_of page count h.kept.host.is.held)
 act (Lacks page) h = does h (lacks_line (missing_on page h.kept.host))
 act (Words v) h = does h (worded_line v)
-act Common h = does h []
 
 -- ---- its beginning
 

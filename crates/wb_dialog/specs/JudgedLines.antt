@@ -1,33 +1,27 @@
--- What a line of a driver says to a judged host, or its first fault.
-use Rattle.std.specs.Prelude.{◌≡◌, ◌≤◌, ◌<◌, true, ℕ, ◌-◌, ◌^◌, List, [], ◌∷◌, ◌++◌, Option, Some, None, Result, Ok, Err, if◌then◌else◌, codes, nat_le}
+-- What the lines that a judged host alone has say, or their first fault.
+use Rattle.std.specs.Prelude.{◌≡◌, ◌≤◌, ◌<◌, true, ℕ, ◌-◌, ◌^◌, List, Option, Some, None, Result, Ok, Err, if◌then◌else◌, codes}
 use Rattle.std.specs.Str.{bytes_eq}
 use Rattle.wb_names.specs.Moments.{IsMoment}
 use Rattle.wb_names.specs.declared.moment.TheConstants.{MAX_MOMENT}
 use Rattle.wb_codec.specs.declared.datagram.Datagram.{Datagram}
-use Rattle.wb_words.specs.declared.adding.Adding.{Adding}
 use Rattle.wb_words.specs.declared.digits_fault.DigitsFault.TheVariants as digit_faults
-use Rattle.wb_words.specs.declared.fault.WrongWord.{WrongWord}
-use Rattle.wb_words.specs.Words.{split_once}
-use Rattle.wb_words.specs.Adding.{adding_reading}
 use Rattle.wb_display.specs.Canvas.{is_canvas_size}
 use Rattle.wb_display.specs.declared.canvas.TheConstants.Canvas.{MAX_WIDTH, MAX_HEIGHT}
-use Rattle.wb_lines.specs.Words.{words}
 use Rattle.wb_commands.specs.declared.fault.LineFault.{LineFault}
 use Rattle.wb_commands.specs.declared.fault.LineFault.TheVariants as faults
 use Rattle.wb_commands.specs.Parsing.{◌>>=◌, datagram, four_of, none_of, number, one_of, or_fault, page, two_of}
-use Rattle.wb_dialog.specs.Lines.{part_behind}
 use Rattle.wb_judge.specs.declared.limits.TheConstants.{TIME_LIMIT}
 use Rattle.wb_judge.specs.declared.origin.Origin.{Origin}
 use Rattle.wb_judging.specs.Calling.{IsWithin as IsCallWithin}
 use Rattle.wb_judging.specs.declared.call.Call.{Call}
-use Rattle.wb_judging.specs.declared.call.Call.TheVariants.{CameFrom, Held, Passed, UserDrew}
-use Rattle.wb_judging.specs.declared.news.News.TheVariants.{Day, Garbled, Gone, Nothing}
+use Rattle.wb_judging.specs.declared.call.Call.TheVariants.{CameFrom, Held, Passed}
+use Rattle.wb_judging.specs.declared.news.News.TheVariants.{Day, Garbled, Gone}
 use Rattle.wb_judging.specs.declared.record.RecordLine.{RecordLine}
 use Rattle.wb_dialog.specs.declared.judged_line.JudgeLine.{JudgeLine}
 use Rattle.wb_dialog.specs.declared.judged_line.JudgedLine.{JudgedLine}
-use Rattle.wb_dialog.specs.declared.judged_line.JudgedLine.TheVariants.{Call as Calls, Skip, Members, List as Lists, Paint, Since, Lacks, Words, Common}
+use Rattle.wb_dialog.specs.declared.judged_line.JudgedLine.TheVariants.{Call as Calls, Skip, Members, List as Lists, Paint, Since, Lacks, Words}
 use Rattle.wb_dialog.specs.Records.{record_of}
-use Rattle.wb_dialog.specs.Words.{most64, number_or_none, origin, six_of, three_of}
+use Rattle.wb_dialog.specs.Words.{behind, most64, number_or_none, origin, six_of, three_of}
 use Rattle.wb_policy.specs.declared.limits.TheConstants.{MAX_RATE}
 
 -- a time of day, in microseconds since 1970
@@ -50,14 +44,6 @@ judge_line arguments = do
   strangers' ← strangers words'.5
   Ok (record { now = now; rate = rate; listen = listen; wall = wall; here = here; strangers = strangers' })
 
--- the words of a line whose first is `judge`
-abbrev pub judge_of_words : List (List ℕ) → Option (Result JudgeLine LineFault)
-judge_of_words [] = None
-judge_of_words (word ∷ arguments) = if bytes_eq word (codes "judge") then Some (judge_line arguments) else None
-
-abbrev pub judge_line_of : List ℕ → Option (Result JudgeLine LineFault)
-judge_line_of line = judge_of_words (words line)
-
 -- ---- lines of a host that is judged
 
 -- Bytes that spell no datagram come in too.
@@ -73,21 +59,13 @@ abbrev pub came_of : ℕ → Origin → Option Datagram → Call
 came_of now o None = Passed now Garbled
 came_of now o (Some v) = CameFrom now o v
 
-unfoldable pub came_by : List ℕ → List ℕ → List (List ℕ) → Result JudgedLine LineFault
-came_by now place digits = do
+-- bytes that came in at a moment, from an origin
+unfoldable pub came_from : List ℕ → List ℕ → List (List ℕ) → Result JudgedLine LineFault
+came_from now place digits = do
   now' ← number 0 MAX_MOMENT now
   origin' ← origin place
   datagram' ← arrival digits
   Ok (Calls (came_of now' origin' datagram'))
-
-abbrev pub came_line : List (List ℕ) → Result JudgedLine LineFault
-came_line arguments = or_fault faults.Words (three_of arguments) >>= λ words'. came_by words'.0 words'.1 words'.2
-
-unfoldable pub tick_line : List (List ℕ) → Result JudgedLine LineFault
-tick_line arguments = do
-  word ← or_fault faults.Words (one_of arguments)
-  now ← number 0 MAX_MOMENT word
-  Ok (Calls (Passed now Nothing))
 
 unfoldable pub wall_line : List (List ℕ) → Result JudgedLine LineFault
 wall_line arguments = do
@@ -102,9 +80,6 @@ gone_line arguments = do
   now ← number 0 MAX_MOMENT words'.0
   origin' ← origin words'.1
   Ok (Calls (Passed now (Gone origin')))
-
-abbrev pub members_line : List (List ℕ) → Result JudgedLine LineFault
-members_line arguments = or_fault faults.Words (none_of arguments) >>= λ nothing. Ok Members
 
 unfoldable pub list_line : List (List ℕ) → Result JudgedLine LineFault
 list_line arguments = do
@@ -132,13 +107,6 @@ since_line arguments = do
   count ← number 0 (2 ^ 32 - 1) last
   Ok (Since (record { creator = creator; number = number' }) count)
 
-abbrev pub lacks_line : List (List ℕ) → Result JudgedLine LineFault
-lacks_line arguments = page arguments >>= λ p. Ok (Lacks p)
-
--- Bytes that spell no datagram are refused, with their fault.
-abbrev pub words_line : List (List ℕ) → Result JudgedLine LineFault
-words_line arguments = datagram arguments >>= λ v. Ok (Words v)
-
 abbrev pub held_by : Option RecordLine → JudgedLine
 held_by None = Skip
 held_by (Some line) = Calls (Held line)
@@ -146,59 +114,19 @@ held_by (Some line) = Calls (Held line)
 abbrev pub held_line : List ℕ → Result JudgedLine LineFault
 held_line line = record_of line >>= λ record'. Ok (held_by record')
 
--- ---- a drawing of the user's
-
--- The host has the time of day, so a drawing is read as one at the time 0, which is not written.
-abbrev pub timed_by : List ℕ → Option (List ℕ × List ℕ) → List ℕ
-timed_by now None = now ++ codes " 0"
-timed_by words' (Some parts) = parts.0 ++ (codes " 0 " ++ parts.1)
-
-abbrev pub timed : List ℕ → List ℕ
-timed words' = timed_by words' (split_once 32 words')
-
-abbrev pub unwritten : WrongWord → WrongWord
-unwritten wrong = record { place = if nat_le wrong.place 1 then 1 else wrong.place - 1; fault = wrong.fault }
-
-abbrev pub drawn : Result Adding WrongWord → Result JudgedLine LineFault
-drawn (Ok a) = Ok (Calls (UserDrew a.moment a.page a.op))
-drawn (Err wrong) = Err (faults.Word (unwritten wrong))
-
-abbrev pub added : List ℕ → Result JudgedLine LineFault
-added words' = drawn (adding_reading (timed words'))
-
--- ---- all lines
-
--- The line with this first word and these further ones. A line that a judged host does not have for itself is a common one. What
--- follows `held` or `add` begins one space after it, so if it does not, it is wrong.
-unfoldable pub command : List ℕ → List (List ℕ) → Result JudgedLine LineFault
-command word arguments =
-    if bytes_eq word (codes "held") then Err faults.Words
-    else (if bytes_eq word (codes "came") then came_line arguments
-    else (if bytes_eq word (codes "tick") then tick_line arguments
-    else (if bytes_eq word (codes "add") then Err faults.Words
+-- The line with this first word and these further ones. What follows `held` begins one space after it, so if it does not, it is wrong.
+unfoldable pub own_row : List ℕ → List ℕ → List (List ℕ) → Result JudgedLine LineFault
+own_row line word arguments =
+    if bytes_eq word (codes "held") then or_fault faults.Words (behind (codes "held") line) >>= held_line
     else (if bytes_eq word (codes "wall") then wall_line arguments
     else (if bytes_eq word (codes "gone") then gone_line arguments
-    else (if bytes_eq word (codes "members") then members_line arguments
+    else (if bytes_eq word (codes "members") then or_fault faults.Words (none_of arguments) >>= (λ nothing. Ok Members)
     else (if bytes_eq word (codes "list") then list_line arguments
     else (if bytes_eq word (codes "paint") then paint_line arguments
     else (if bytes_eq word (codes "since") then since_line arguments
-    else (if bytes_eq word (codes "lacks") then lacks_line arguments
-    else (if bytes_eq word (codes "words") then words_line arguments
-    else Ok Common)))))))))))
-
-abbrev pub line_of_words : List (List ℕ) → Result JudgedLine LineFault
-line_of_words [] = Ok Common
-line_of_words (word ∷ arguments) = command word arguments
-
--- by what follows the word `held`, or the word `add`
-abbrev pub line_behind : List ℕ → Option (List ℕ) → Option (List ℕ) → Result JudgedLine LineFault
-line_behind line None None = line_of_words (words line)
-line_behind line None (Some rest) = added rest
-line_behind line (Some rest) added' = held_line rest
-
--- the line, which stands without its end
-abbrev pub judged_line_of : List ℕ → Result JudgedLine LineFault
-judged_line_of line = line_behind line (part_behind (codes "held") (split_once 32 line)) (part_behind (codes "add") (split_once 32 line))
+    else (if bytes_eq word (codes "lacks") then page arguments >>= (λ p. Ok (Lacks p))
+    else (if bytes_eq word (codes "words") then datagram arguments >>= (λ v. Ok (Words v))
+    else Err faults.Unknown))))))))
 
 -- ---- what the code answers
 
@@ -218,4 +146,3 @@ IsWithin (Lacks page) = Unit {0}
 IsWithin (Since page count) = Unit {0}
 IsWithin (Words v) = Unit {0}
 IsWithin (Paint page width height) = is_canvas_size width height ≡ true
-IsWithin Common = Unit {0}

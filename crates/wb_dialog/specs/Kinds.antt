@@ -5,23 +5,27 @@ use Rattle.std.specs.declared.convert.Infallible.{Infallible}
 use Rattle.wb_recovery.specs.declared.tuning.Tuning.{Tuning}
 use Rattle.wb_judge.specs.Judge.{Judge}
 use Rattle.wb_judging.specs.Judged.{Judged}
+use Rattle.wb_judging.specs.declared.call.Call.TheVariants.{Passed}
+use Rattle.wb_judging.specs.declared.news.News.TheVariants.{Nothing}
 use Rattle.wb_keeping.specs.Performing.{Keeping}
 use Rattle.wb_lines.specs.Input.{InputLine, input_lines, content}
 use Rattle.wb_lines.specs.Handling.{Met, whole, too_long, Step, goes}
 use Rattle.wb_lines.specs.Taking.{met}
-use Rattle.wb_commands.specs.declared.fault.LineFault.{LineFault}
+use Rattle.wb_member.specs.declared.calls.Call.TheVariants as calls
+use Rattle.wb_commands.specs.declared.command.Command.TheVariants as lines
 use Rattle.wb_commands.specs.declared.fault.LineFault.TheVariants as faults
 use Rattle.wb_dialog.specs.declared.fault.Refusal.{Refusal}
 use Rattle.wb_dialog.specs.declared.fault.Refusal.TheVariants as refusals
 use Rattle.wb_dialog.specs.declared.judged_line.JudgeLine.{JudgeLine}
-use Rattle.wb_dialog.specs.declared.judged_line.JudgedLine.{JudgedLine}
-use Rattle.wb_dialog.specs.declared.judged_line.JudgedLine.TheVariants.{Common}
+use Rattle.wb_dialog.specs.declared.judged_line.JudgedLine.TheVariants.{Call as Calls}
 use Rattle.wb_dialog.specs.declared.line.DriverLine.{DriverLine}
+use Rattle.wb_dialog.specs.declared.line.DriverLine.TheVariants.{Script}
+use Rattle.wb_dialog.specs.declared.said.Said.{Said}
+use Rattle.wb_dialog.specs.declared.said.Said.TheVariants as saids
 use Rattle.wb_dialog.specs.Dialog.{answered_lines, ok_line, refused_line}
 use Rattle.wb_dialog.specs.Hosting.{Host, Driven, Kept, Reply, prints, denies, due_at, kept_reply, reply as unjudged_reply}
 use Rattle.wb_dialog.specs.Judged.{Act, does, fails, act, begun}
-use Rattle.wb_dialog.specs.JudgedLines.{judge_line_of, judged_line_of}
-use Rattle.wb_dialog.specs.Lines.{line_of}
+use Rattle.wb_dialog.specs.Lines.{as_refusal, said_of, unjudged_line}
 
 -- What a host is. It has no judge, and is closed, driven or kept; or it is judged.
 pub data Kind : Type 0 where
@@ -51,46 +55,42 @@ as_kept j (prints (Some (Kept k)) text) = answers (judged (record { kept = k; ju
 as_kept j (prints next text) = answers (unjudged next) text
 as_kept j (denies e) = rejects e
 
-abbrev pub said_reply : Result DriverLine Refusal → Keeping → Reply
-said_reply (Ok line) k = kept_reply line k
-said_reply (Err e) k = denies e
+-- a line that any host has; of a tick its judge hears too
+abbrev pub common_response : DriverLine → Judged → Response
+common_response (Script (lines.Call (calls.Tick now))) h = as_judged (act (Calls (Passed now Nothing)) h)
+common_response line h = as_kept h.judge (kept_reply line h.kept)
 
--- a line that any host has
-abbrev pub common_response : Tuning → Kind → Result DriverLine Refusal → Response
-common_response tuning (unjudged s) said = as_unjudged (unjudged_reply tuning s said)
-common_response tuning (judged h) said = as_kept h.judge (said_reply said h.kept)
+abbrev pub judged_response : Said → Judged → Response
+judged_response (saids.Common (Ok line)) h = common_response line h
+judged_response (saids.Common (Err e)) h = rejects (refusals.Line e)
+judged_response (saids.Own (Ok line) other) h = as_judged (act line h)
+judged_response (saids.Own (Err e) other) h = rejects (refusals.Line e)
+judged_response (saids.Unjudged read other) h = rejects (refusals.Line other)
+judged_response (saids.Judge line) h = rejects refusals.Kept
 
-abbrev pub judged_response : Tuning → Judged → List ℕ → Result JudgedLine LineFault → Response
-judged_response tuning h line (Ok Common) = common_response tuning (judged h) (line_of line)
-judged_response tuning h line (Ok said) = as_judged (act said h)
-judged_response tuning h line (Err e) = rejects (refusals.Line e)
+-- ---- a host without a judge
 
--- ---- a line that begins to judge
+-- A line that begins to judge stands in the place of `keep`: it is refused as that is, so after a line that acts it is too late. The host begins
+-- anew, as a judged member of the board that it opened.
+abbrev pub judge_response : Tuning → JudgeLine → Option Host → Response
+judge_response tuning line None = rejects (refusals.Line faults.NoBoard)
+judge_response tuning line (Some (Driven host None)) = rejects refusals.TooLate
+judge_response tuning line (Some (Driven host (Some b))) = answers (judged (begun tuning line b)) []
+judge_response tuning line (Some (Kept k)) = rejects refusals.Kept
 
--- It stands in the place of `keep`: it is refused as that is, so after a line that acts it is too late. The host begins anew, as a judged member
--- of the board that it opened.
-abbrev pub judge_response : Tuning → JudgeLine → Kind → Response
-judge_response tuning line (unjudged None) = rejects (refusals.Line faults.NoBoard)
-judge_response tuning line (unjudged (Some (Driven host None))) = rejects refusals.TooLate
-judge_response tuning line (unjudged (Some (Driven host (Some b)))) = answers (judged (begun tuning line b)) []
-judge_response tuning line (unjudged (Some (Kept k))) = rejects refusals.Kept
-judge_response tuning line (judged h) = rejects refusals.Kept
+abbrev pub unjudged_response : Tuning → Said → Option Host → Response
+unjudged_response tuning (saids.Judge line) s = judge_response tuning line s
+unjudged_response tuning said s = as_unjudged (unjudged_reply tuning s (as_refusal (unjudged_line said)))
 
 -- ---- one line
 
--- a line that does not begin to judge
-abbrev pub line_response : Tuning → Kind → List ℕ → Response
-line_response tuning (unjudged s) line = common_response tuning (unjudged s) (line_of line)
-line_response tuning (judged h) line = judged_response tuning h line (judged_line_of line)
-
-abbrev pub response_by : Tuning → Kind → List ℕ → Option (Result JudgeLine LineFault) → Response
-response_by tuning s line None = line_response tuning s line
-response_by tuning s line (Some (Ok said)) = judge_response tuning said s
-response_by tuning s line (Some (Err e)) = rejects (refusals.Line e)
+abbrev pub response_by : Tuning → Kind → Said → Response
+response_by tuning (unjudged s) said = unjudged_response tuning said s
+response_by tuning (judged h) said = judged_response said h
 
 -- what a host answers to a line, which stands without its end
 abbrev pub response_to : Tuning → Kind → List ℕ → Response
-response_to tuning s line = response_by tuning s line (judge_line_of line)
+response_to tuning s line = response_by tuning s (said_of line)
 
 -- ---- blocks
 

@@ -16,12 +16,13 @@ use Rattle.wb_dialog.specs.declared.fault.Refusal.{Refusal}
 use Rattle.wb_commands.specs.declared.command.Command.{Command}
 use Rattle.wb_commands.specs.Parsing.{handed_in, script_line_of}
 use Rattle.wb_dialog.specs.declared.line.DriverLine.TheVariants.{Script}
-use Rattle.wb_dialog.specs.Lines.{line_of}
+use Rattle.wb_dialog.specs.Lines.{line_of, said_of}
 use Rattle.wb_dialog.specs.declared.line.DriverLine.{DriverLine}
 use Rattle.wb_dialog.specs.declared.line.DriverLine.TheVariants.{Keep}
+use Rattle.wb_dialog.specs.declared.said.Said.{Said}
+use Rattle.wb_dialog.specs.declared.said.Said.TheVariants.{Judge}
 use Rattle.wb_dialog.specs.Dialog.{ok_line, refused_line, says_line, version_line, transcript as driven_transcript}
 use Rattle.wb_dialog.specs.Hosting.{transcript as unjudged_transcript}
-use Rattle.wb_dialog.specs.JudgedLines.{judge_line_of}
 use Rattle.wb_dialog.specs.Kinds.{Standing, Response, answers, rejects, response_to, response_of, block_of, blocks_from, after, standing_from, transcript}
 
 -- A refused line leaves the host as it was: its block says why, and what follows it is answered as if it had not been there.
@@ -74,9 +75,13 @@ AcceptedAlone = (s : Standing) (lines : List InputLine) → (blocks_from s (acce
 
 -- ---- a host that is never judged
 
--- a line whose first word is not `judge`
+-- a line that does not begin to judge
+abbrev pub IsNoJudge : Said → Type 0
+IsNoJudge (Judge line) = ⊥
+IsNoJudge said = Unit {0}
+
 abbrev pub BeginsNoJudge : Met → Type 0
-BeginsNoJudge (whole line) = judge_line_of (content line) ≡ None
+BeginsNoJudge (whole line) = IsNoJudge (said_of (content line))
 BeginsNoJudge too_long = Unit {0}
 
 -- If no line of an input says `judge`, what is written is what a host writes that knows no judge.

@@ -1,9 +1,10 @@
 pub mod Boards
 pub mod Refusals
-pub mod Lines
 pub mod Words
 pub mod Records
 pub mod JudgedLines
+pub mod Adding
+pub mod Lines
 pub mod Dialog
 pub mod Hosting
 pub mod Texts

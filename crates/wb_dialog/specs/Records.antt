@@ -4,7 +4,6 @@ use Rattle.wb_names.specs.Values.{DrawopValue}
 use Rattle.wb_codec.specs.declared.datagram.Datagram.{Datagram}
 use Rattle.wb_codec.specs.declared.datagram.Datagram.TheVariants.{Draw, PageState}
 use Rattle.wb_words.specs.Reading.{begins_datagram, reading as reading_words}
-use Rattle.wb_words.specs.Words.{split_once}
 use Rattle.wb_words.specs.declared.digits_fault.DigitsFault.TheVariants as digit_faults
 use Rattle.wb_words.specs.declared.fault.WrongWord.{WrongWord}
 use Rattle.wb_member.specs.declared.calls.Call.TheVariants.{Hear, Tick}
@@ -16,8 +15,7 @@ use Rattle.wb_commands.specs.declared.fault.Untaken.{Untaken}
 use Rattle.wb_commands.specs.declared.fault.Untaken.TheVariants as untaken
 use Rattle.wb_commands.specs.Parsing.{◌>>=◌, number, or_fault, script_line_of, two_of}
 use Rattle.wb_lines.specs.Words.{words}
-use Rattle.wb_dialog.specs.Lines.{part_behind}
-use Rattle.wb_dialog.specs.Words.{origin}
+use Rattle.wb_dialog.specs.Words.{behind, origin}
 use Rattle.wb_judging.specs.declared.record.RecordLine.{RecordLine}
 use Rattle.wb_judging.specs.declared.record.RecordLine.TheVariants as records
 
@@ -74,7 +72,7 @@ record_by line None None = script_line_of line >>= recorded (begins_datagram lin
 
 -- the line, which stands without its end
 abbrev pub record_of : List ℕ → Result (Option RecordLine) LineFault
-record_of line = let parts = split_once 32 line in record_by line (part_behind (codes "say") parts) (part_behind (codes "owner") parts)
+record_of line = record_by line (behind (codes "say") line) (behind (codes "owner") line)
 
 -- what a line says, or its first fault; or an allocation failed
 abbrev pub Reads : {X : Type 0} → Result X Untaken → Result X LineFault → Type 0

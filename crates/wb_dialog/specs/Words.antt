@@ -1,10 +1,18 @@
--- The words of the lines of a judged host.
+-- The words of a line, and what follows the first of them.
 use Rattle.std.specs.Prelude.{ℕ, ◌-◌, ◌^◌, List, [], ◌∷◌, Option, Some, None, Result, Ok, if◌then◌else◌, codes}
 use Rattle.std.specs.Str.{bytes_eq}
 use Rattle.wb_words.specs.Words.{split_once}
 use Rattle.wb_judge.specs.declared.origin.Origin.{Origin}
 use Rattle.wb_commands.specs.declared.fault.LineFault.{LineFault}
 use Rattle.wb_commands.specs.Parsing.{number, ◌>>=◌}
+
+-- what follows a word and a space, with which a line begins
+abbrev pub behind_parts : List ℕ → Option (List ℕ × List ℕ) → Option (List ℕ)
+behind_parts opener None = None
+behind_parts opener (Some parts) = if bytes_eq parts.0 opener then Some parts.1 else None
+
+abbrev pub behind : List ℕ → List ℕ → Option (List ℕ)
+behind opener line = behind_parts opener (split_once 32 line)
 
 -- the only three words, of which the last stands alone in a list, and the only six
 abbrev pub three_of : List (List ℕ) → Option (List ℕ × List ℕ × List (List ℕ))

@@ -1,22 +1,20 @@
 //! A host as a handler of the lines of a driver: each line has its block.
-ghost use Rattle.std.specs.Prelude.{◌≡◌, None, Ok, Some, true, is_some};
+ghost use Rattle.std.specs.Prelude.{◌≡◌, None, Some, true, is_some};
 ghost use Rattle.wb_recovery.specs.Timing.{are_constants};
 ghost use Rattle.wb_keeping.specs.Performing.{KeptValue};
 ghost use Rattle.wb_judging.specs.Performing.{JudgedValue};
-ghost use Rattle.wb_dialog.specs.JudgedLines.{IsJudgeLine};
-ghost use Rattle.wb_dialog.specs.Kinds.{Kind, due_of, judge_response, line_response, rejects, response_to};
-ghost use Rattle.wb_dialog.specs.Lines.{IsWithin, line_of};
-ghost use Rattle.wb_dialog.specs.Hosting.{reply, reply_to};
+ghost use Rattle.wb_dialog.specs.Kinds.{Kind, due_of, rejects, response_by, response_to};
+ghost use Rattle.wb_dialog.specs.Lines.{IsSaidWithin, IsWithin};
+ghost use Rattle.wb_dialog.specs.Hosting.{reply_to};
 ghost use Rattle.wb_dialog.specs.Doing.{Adds, BlocksAt, DoesReply, IsKindAt, LeadsFrom, judged_in, kept_in, with_kept, with_member};
 
 use crate::blocks::{print_block, refused_line};
 use crate::board::Board;
 use crate::fault::{Refusal, Unanswered};
-use crate::judged_line::JudgeLine;
-use crate::judged_parsing::read_judge;
 use crate::line::DriverLine;
 use crate::opened::Host;
 use crate::parsing::read_line;
+use crate::said::Said;
 use crate::told::Told;
 use std::alloc::{AllocError, Global};
 use std::convert::Infallible;
@@ -171,61 +169,37 @@ impl Dialog {
         }
     }
 
-    /// The same, by its bytes.
-    fn take_first(&mut self, alloc: Global, content: &[u8]) -> Result<Told, Unanswered>
-        requires { self.old.host ≡ None }
-        ensures does { DoesReply None self.new.host result
-            (reply self.old.tuning None (line_of content.now)) }
+    /// The same, by what it says. Nothing is judged before a board is open.
+    fn take_first(&mut self, alloc: Global, said: Said) -> Result<Told, Unanswered>
+        requires line { IsSaidWithin said }
+        requires closed { self.old.host ≡ None }
+        ensures does { LeadsFrom None self.new.host result
+            (λ s. response_by self.old.tuning s said) }
         ensures tuning { self.new.tuning ≡ self.old.tuning }
     {
-        let line = read_line(alloc, content)?;
-        self.begin(alloc, &line)
-    }
-
-    /// From now on the host is judged, if it may be.
-    #[tactic(auto, using(crate::proofs::EachKind::is_closed))]
-    fn judge(&mut self, alloc: Global, line: JudgeLine) -> Result<Told, Unanswered>
-        requires { IsJudgeLine line }
-        ensures does { LeadsFrom self.old.host self.new.host result
-            (judge_response self.old.tuning line) }
-        ensures tuning { self.new.tuning ≡ self.old.tuning }
-    {
-        let Some(host) = self.host.take() else {
-            return Err(Unanswered::Refused(Refusal::Line(LineFault::NoBoard)));
-        };
-        let (next, result) = host.judge(alloc, self.tuning, line);
-        self.put(next);
-        result
-    }
-
-    /// What a line does that does not begin to judge.
-    #[tactic(auto, using(crate::proofs::EachKind::leads_first))]
-    fn take_line(&mut self, alloc: Global, content: &[u8]) -> Result<Told, Unanswered>
-        ensures does { LeadsFrom self.old.host self.new.host result
-            (λ s. line_response self.old.tuning s content.now) }
-        ensures tuning { self.new.tuning ≡ self.old.tuning }
-    {
-        let Some(host) = self.host.take() else {
-            return self.take_first(alloc, content);
-        };
-        let (next, result) = host.take(alloc, content);
-        self.put(next);
-        result
+        match said {
+            Said::Judge(_) => Err(Unanswered::Refused(Refusal::Line(LineFault::NoBoard))),
+            said => {
+                let line = said.unjudged()?;
+                self.begin(alloc, &line)
+            }
+        }
     }
 
     /// What a line does, and what it comes to. If an allocation fails, nothing is promised of what
     /// is left: the host is given up.
-    #[tactic(auto, using(crate::proofs::EachKind::begins_not, crate::proofs::EachKind::begins, crate::proofs::EachKind::unread))]
     fn act(&mut self, alloc: Global, content: &[u8]) -> Result<Told, Unanswered>
         ensures does { LeadsFrom self.old.host self.new.host result
             (λ s. response_to self.old.tuning s content.now) }
         ensures tuning { self.new.tuning ≡ self.old.tuning }
     {
-        match read_judge(content) {
-            None => self.take_line(alloc, content),
-            Some(Ok(line)) => self.judge(alloc, line),
-            Some(Err(fault)) => Err(Unanswered::Refused(Refusal::Line(fault))),
-        }
+        let said = read_line(alloc, content)?;
+        let Some(host) = self.host.take() else {
+            return self.take_first(alloc, said);
+        };
+        let (next, result) = host.take(alloc, self.tuning, said);
+        self.put(next);
+        result
     }
 
     /// Prints the block of a line, which stands without its end: what it prints, and `ok DUE`; or,

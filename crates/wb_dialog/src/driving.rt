@@ -1,22 +1,26 @@
 //! What a line does at a host that its driver drives.
-ghost use Rattle.std.specs.Prelude.{◌≡◌, ◌≤◌, None, Some, Ok, if◌then◌else◌};
-ghost use Rattle.wb_dialog.specs.Doing.{DoesOpen, LeadsOpen};
-ghost use Rattle.wb_dialog.specs.Hosting.{acts_in_script, is_acting, keep_reply, taken_by};
-ghost use Rattle.wb_dialog.specs.Kinds.{common_response, line_response};
-ghost use Rattle.wb_dialog.specs.Lines.{IsWithin};
+ghost use Rattle.std.specs.Prelude.{◌≡◌, ◌≤◌, None, Some, true, if◌then◌else◌};
+ghost use Rattle.wb_recovery.specs.Timing.{are_constants};
+ghost use Rattle.wb_recovery.specs.declared.tuning.Tuning.{Tuning as Constants};
+ghost use Rattle.wb_dialog.specs.Doing.{DoesOpen, LeadsFrom};
+ghost use Rattle.wb_dialog.specs.Hosting.{acts_in_script, is_acting, keep_reply, reply_to, taken_by};
+ghost use Rattle.wb_dialog.specs.Kinds.{response_by};
+ghost use Rattle.wb_dialog.specs.Lines.{IsSaidWithin, IsWithin};
 ghost use Rattle.wb_dialog.specs.declared.opened.Host.TheVariants as values;
 
 use crate::answering::answer;
 use crate::board::Board;
 use crate::fault::{Refusal, Unanswered};
+use crate::judged::begin_to_judge;
 use crate::line::DriverLine;
 use crate::opened::Host;
-use crate::parsing::read_line;
+use crate::said::Said;
 use crate::told::Told;
 use std::alloc::Global;
 use wb_commands::Command;
 use wb_keeping::KeptMember;
 use wb_member::{Call, Member};
+use wb_recovery::Tuning;
 
 /// Whether a line of a script acts on its host.
 fn acts_in_script(line: &Command) -> bool
@@ -98,8 +102,8 @@ fn drive(
     }
 }
 
-/// What it does for a line.
-#[tactic(auto, using(crate::proofs::EachKind::keeps_driven, crate::proofs::EachKind::leads_driven))]
+/// What it does for a line that does not begin to judge.
+#[tactic(auto, using(crate::proofs::EachKind::drives_line))]
 fn take(
     alloc: Global,
     member: Member,
@@ -107,8 +111,8 @@ fn take(
     line: DriverLine,
 ) -> (Host, Result<Told, Unanswered>)
     requires { IsWithin line }
-    ensures { LeadsOpen (values.Driven member board) result.0 result.1
-        (λ tuning s. common_response tuning s (Ok line)) }
+    ensures { (tuning : Constants) → DoesOpen (values.Driven member board) result.0 result.1
+        (λ h. reply_to tuning (Some h) line) }
 {
     match line {
         DriverLine::Keep { rate, listen } => begin_to_keep(member, board, rate, listen),
@@ -116,19 +120,27 @@ fn take(
     }
 }
 
-/// What it does for a line, by its bytes; or it is refused, and then it stays as it is.
-#[tactic(auto, using(crate::proofs::EachKind::reads_driven, crate::proofs::EachKind::unread_driven))]
+/// What it does for a line; or it is refused, and then it stays as it is.
 pub(crate) fn take_driven(
     alloc: Global,
+    tuning: Tuning,
     member: Member,
     board: Option<Board>,
-    content: &[u8],
+    said: Said,
 ) -> (Host, Result<Told, Unanswered>)
-    ensures { LeadsOpen (values.Driven member board) result.0 result.1
-        (λ tuning s. line_response tuning s content.now) }
+    requires constants { are_constants tuning ≡ true }
+    requires line { IsSaidWithin said }
+    ensures { LeadsFrom (Some (values.Driven member board)) (Some result.0) result.1
+        (λ s. response_by tuning s said) }
 {
-    match read_line(alloc, content) {
-        Ok(line) => take(alloc, member, board, line),
-        Err(fault) => (Host::Driven { member, board }, Err(fault)),
+    match said {
+        Said::Judge(line) => begin_to_judge(alloc, tuning, line, member, board),
+        said => match said.unjudged() {
+            Ok(line) => take(alloc, member, board, line),
+            Err(fault) => (
+                Host::Driven { member, board },
+                Err(Unanswered::Refused(Refusal::Line(fault))),
+            ),
+        },
     }
 }

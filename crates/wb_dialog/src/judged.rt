@@ -1,25 +1,27 @@
 //! What a line does at a judged host, and how a driven one becomes judged.
 ghost use Rattle.std.specs.Prelude.{◌≡◌, Some, true};
 ghost use Rattle.wb_recovery.specs.Timing.{are_constants};
-ghost use Rattle.wb_dialog.specs.Doing.{LeadsFrom, LeadsOpen};
+ghost use Rattle.wb_dialog.specs.Doing.{LeadsFrom, LeadsJudged};
 ghost use Rattle.wb_dialog.specs.JudgedLines.{IsJudgeLine};
-ghost use Rattle.wb_dialog.specs.Kinds.{common_response, judge_response, line_response};
-ghost use Rattle.wb_dialog.specs.Lines.{line_of};
+ghost use Rattle.wb_dialog.specs.Kinds.{common_response, judged_response, response_by};
+ghost use Rattle.wb_dialog.specs.Lines.{IsSaidWithin, IsWithin};
 ghost use Rattle.wb_dialog.specs.declared.opened.Host.TheVariants as values;
+ghost use Rattle.wb_dialog.specs.declared.said.Said.TheVariants as saids;
 
 use crate::beginning::begin;
 use crate::board::Board;
 use crate::fault::{Refusal, Unanswered};
 use crate::judged_answering::answer;
 use crate::judged_line::{JudgeLine, JudgedLine};
-use crate::judged_parsing::read_judged;
-use crate::keeping::answer_said;
+use crate::keeping::answer_kept;
+use crate::line::DriverLine;
 use crate::opened::Host;
-use crate::parsing::refused;
+use crate::said::Said;
 use crate::told::Told;
 use std::alloc::Global;
-use wb_judging::JudgedMember;
-use wb_member::Member;
+use wb_commands::Command;
+use wb_judging::{Call, JudgedMember, News};
+use wb_member::{Call as MemberCall, Member};
 use wb_recovery::Tuning;
 
 /// From now on a driven host is judged, if it still has its board, which is opened anew.
@@ -34,7 +36,7 @@ pub(crate) fn begin_to_judge(
     requires constants { are_constants tuning ≡ true }
     requires line { IsJudgeLine line }
     ensures { LeadsFrom (Some (values.Driven member board)) (Some result.0) result.1
-        (judge_response tuning line) }
+        (λ s. response_by tuning s (saids.Judge line)) }
 {
     let Some(board) = board else {
         let late = Host::Driven {
@@ -52,38 +54,54 @@ pub(crate) fn begin_to_judge(
     }
 }
 
-/// A line that any host has is answered as by its self-managing member.
-#[tactic(auto, using(crate::proofs::EachKind::leads_common))]
+/// A line that any host has is answered as by its self-managing member, but for a tick, of which
+/// its judge hears too.
+#[tactic(auto, using(crate::proofs::EachKind::leads_common, crate::proofs::EachKind::leads_tick))]
 fn take_common(
     alloc: Global,
-    member: JudgedMember,
-    content: &[u8],
+    mut member: JudgedMember,
+    line: DriverLine,
 ) -> (Host, Result<Told, Unanswered>)
-    ensures { LeadsOpen (values.Judged member) result.0 result.1
-        (λ tuning s. common_response tuning s (line_of content.now)) }
+    requires { IsWithin line }
+    ensures { LeadsJudged member result.0 result.1 (common_response line) }
 {
+    if let DriverLine::Script(Command::Call(MemberCall::Tick { now })) = line {
+        let news = News::Nothing;
+        let told = answer(
+            alloc,
+            &mut member,
+            JudgedLine::Call(Call::Passed { now, news }),
+        );
+        return (Host::Judged(member), told);
+    }
     let (mut kept, judge) = member.into_parts();
-    let result = answer_said(alloc, &mut kept, content);
+    let result = answer_kept(alloc, &mut kept, &line);
     (Host::Judged(JudgedMember::of_parts(kept, judge)), result)
 }
 
 /// What a line does at a judged host, and what it comes to; or it is refused, and then the host
 /// stays as it is.
-#[tactic(auto, using(crate::proofs::EachKind::leads_as_common, crate::proofs::EachKind::leads_judged, crate::proofs::EachKind::unread_judged))]
 pub(crate) fn take_judged(
     alloc: Global,
     mut member: JudgedMember,
-    content: &[u8],
+    said: Said,
 ) -> (Host, Result<Told, Unanswered>)
-    ensures { LeadsOpen (values.Judged member) result.0 result.1
-        (λ tuning s. line_response tuning s content.now) }
+    requires { IsSaidWithin said }
+    ensures { LeadsJudged member result.0 result.1 (judged_response said) }
 {
-    match read_judged(alloc, content) {
-        Ok(JudgedLine::Common) => take_common(alloc, member, content),
-        Ok(line) => {
+    match said {
+        Said::Common(Ok(line)) => take_common(alloc, member, line),
+        Said::Own(Ok(line), _) => {
             let told = answer(alloc, &mut member, line);
             (Host::Judged(member), told)
         }
-        Err(fault) => (Host::Judged(member), Err(refused(fault))),
+        Said::Common(Err(fault)) | Said::Own(Err(fault), _) | Said::Unjudged(_, fault) => (
+            Host::Judged(member),
+            Err(Unanswered::Refused(Refusal::Line(fault))),
+        ),
+        Said::Judge(_) => (
+            Host::Judged(member),
+            Err(Unanswered::Refused(Refusal::Kept)),
+        ),
     }
 }

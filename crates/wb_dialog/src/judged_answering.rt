@@ -4,7 +4,6 @@ ghost use Rattle.wb_dialog.specs.Doing.{DoesJudged, unanswered_by_judged};
 ghost use Rattle.wb_dialog.specs.Judged.{act};
 ghost use Rattle.wb_dialog.specs.JudgedLines.{IsWithin};
 ghost use Rattle.wb_display.specs.Canvas.{canvas_text, is_canvas_size};
-ghost use Rattle.wb_judging.specs.Calling.{IsWithin as IsCallWithin};
 ghost use Rattle.wb_judging.specs.Judged.{Judged};
 ghost use Rattle.wb_judging.specs.Performing.{IsJudgedAt};
 ghost use Rattle.wb_member.specs.Opened.{shown};
@@ -15,7 +14,7 @@ use crate::told::Told;
 use std::alloc::{AllocError, Global};
 use wb_display::Canvas;
 use wb_judge::AddFault;
-use wb_judging::{Call, JudgedFault, JudgedMember};
+use wb_judging::{JudgedFault, JudgedMember};
 use wb_member::{Answer, Query};
 use wb_names::PageId;
 
@@ -30,17 +29,6 @@ fn refused(fault: JudgedFault) -> Unanswered
         JudgedFault::Judge(AddFault::Twin) => Unanswered::Refused(Refusal::Twin),
         JudgedFault::Judge(AddFault::Full) => Unanswered::Refused(Refusal::Full),
         JudgedFault::Kept(fault) => refused_by_kept(TARGET, fault),
-    }
-}
-
-/// Something happens to the member.
-fn call(alloc: Global, member: &mut JudgedMember, call: &Call) -> Result<Told, Unanswered>
-    requires { IsCallWithin call.now }
-    ensures { DoesJudged member.old member.new result (act (JudgedLine.Call call.now)) }
-{
-    match member.call(alloc, call) {
-        Ok(events) => Ok(Told::Events(events)),
-        Err(fault) => Err(refused(fault)),
     }
 }
 
@@ -136,7 +124,10 @@ pub(crate) fn answer(
     ensures { DoesJudged member.old member.new result (act line) }
 {
     match line {
-        JudgedLine::Call(said) => call(alloc, member, &said),
+        JudgedLine::Call(said) => match member.call(alloc, &said) {
+            Ok(events) => Ok(Told::Events(events)),
+            Err(fault) => Err(refused(fault)),
+        },
         JudgedLine::Members => members(alloc, member),
         JudgedLine::List { most } => list(alloc, member, most),
         JudgedLine::Paint {
@@ -148,6 +139,5 @@ pub(crate) fn answer(
         JudgedLine::Lacks { page } => lacks(alloc, member, page),
         JudgedLine::Words { datagram } => Ok(Told::Words(datagram)),
         JudgedLine::Skip => Ok(Told::Nothing),
-        JudgedLine::Common => Ok(Told::Nothing),
     }
 }

@@ -21,12 +21,12 @@ pub struct JudgeLine {
     pub strangers: Option<u16>,
 }
 
-/// A line at a judged host, with its words as fields.
+/// A line that a judged host alone has, with its words as fields.
 #[derive(Debug, Drop)]
 pub enum JudgedLine {
     /// Something happens to the member: `came NOW ORIGIN HEX`, where an origin is `PLACE` or
-    /// `PLACE@OWNER`, `tick NOW`, `add NOW C/N OPERATION`, `wall NOW WALL`, `gone NOW ORIGIN`, or
-    /// `held LINE` with a line of the record.
+    /// `PLACE@OWNER`, `add NOW C/N OPERATION`, `wall NOW WALL`, `gone NOW ORIGIN`, or `held LINE`
+    /// with a line of the record.
     Call(Call),
     /// `held LINE`, if the line of the record says nothing to a member: no words, a comment, or the
     /// line of its board.
@@ -56,6 +56,4 @@ pub enum JudgedLine {
     Words {
         datagram: Datagram,
     },
-    /// Any other line: a common one, which is answered as at a self-managing host.
-    Common,
 }

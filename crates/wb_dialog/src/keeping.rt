@@ -3,19 +3,20 @@ ghost use Rattle.std.specs.Prelude.{◌≡◌, ◌<◌, ◌^◌, true};
 ghost use Rattle.wb_names.specs.Moments.{IsMoment};
 ghost use Rattle.wb_member.specs.Holding.{outcome_in};
 ghost use Rattle.wb_member.specs.Questions.{IsAnswerable};
-ghost use Rattle.wb_dialog.specs.Doing.{DoesKept, LeadsOpen};
+ghost use Rattle.wb_dialog.specs.Doing.{DoesKept, LeadsOpen, kept_response};
 ghost use Rattle.wb_dialog.specs.Inside.Told.{batch_text};
 ghost use Rattle.wb_recovery.specs.Timing.{are_constants};
 ghost use Rattle.wb_keeping.specs.Calls.{IsWithin as IsWithinKept, line_of};
 ghost use Rattle.wb_dialog.specs.Hosting.{kept_adds, kept_batch, kept_performs, kept_reply, kept_tunes, unsent_text};
-ghost use Rattle.wb_dialog.specs.Kinds.{line_response, said_reply};
-ghost use Rattle.wb_dialog.specs.Lines.{IsWithin, line_of as driver_line_of};
+ghost use Rattle.wb_dialog.specs.Kinds.{response_by};
+ghost use Rattle.wb_dialog.specs.Lines.{IsSaidWithin, IsWithin};
 ghost use Rattle.wb_dialog.specs.declared.opened.Host.TheVariants as values;
 
 use crate::fault::{Refusal, Unanswered, refused_by_kept};
 use crate::line::DriverLine;
 use crate::opened::Host;
-use crate::parsing::{read_line, refused};
+use crate::parsing::refused;
+use crate::said::Said;
 use crate::told::{Batch, Told};
 use std::alloc::Global;
 use wb_board::Reply;
@@ -109,7 +110,11 @@ fn ask(alloc: Global, kept: &mut KeptMember, query: Query) -> Result<Told, Unans
 
 /// What a line does at a self-managing host, and what it comes to; or it is refused, and then the
 /// host stays as it is. Some lines are no longer its driver's to judge.
-fn answer_kept(alloc: Global, kept: &mut KeptMember, line: &DriverLine) -> Result<Told, Unanswered>
+pub(crate) fn answer_kept(
+    alloc: Global,
+    kept: &mut KeptMember,
+    line: &DriverLine,
+) -> Result<Told, Unanswered>
     requires { IsWithin line.now }
     ensures { DoesKept kept.old kept.new result (kept_reply line.now) }
 {
@@ -133,16 +138,18 @@ fn answer_kept(alloc: Global, kept: &mut KeptMember, line: &DriverLine) -> Resul
     }
 }
 
-/// The same, by its bytes.
-pub(crate) fn answer_said(
-    alloc: Global,
-    kept: &mut KeptMember,
-    content: &[u8],
-) -> Result<Told, Unanswered>
-    ensures { DoesKept kept.old kept.new result (said_reply (driver_line_of content.now)) }
+/// The same, by what it says.
+fn answer_said(alloc: Global, kept: &mut KeptMember, said: Said) -> Result<Told, Unanswered>
+    requires { IsSaidWithin said }
+    ensures { DoesKept kept.old kept.new result (kept_response said) }
 {
-    let line = read_line(alloc, content)?;
-    answer_kept(alloc, kept, &line)
+    match said {
+        Said::Judge(_) => Err(Unanswered::Refused(Refusal::Kept)),
+        said => {
+            let line = said.unjudged()?;
+            answer_kept(alloc, kept, &line)
+        }
+    }
 }
 
 /// What a line does at a host that is self-managing and not judged.
@@ -150,11 +157,11 @@ pub(crate) fn answer_said(
 pub(crate) fn take_kept(
     alloc: Global,
     mut kept: KeptMember,
-    content: &[u8],
+    said: Said,
 ) -> (Host, Result<Told, Unanswered>)
-    ensures { LeadsOpen (values.Kept kept) result.0 result.1
-        (λ tuning s. line_response tuning s content.now) }
+    requires { IsSaidWithin said }
+    ensures { LeadsOpen (values.Kept kept) result.0 result.1 (λ tuning s. response_by tuning s said) }
 {
-    let result = answer_said(alloc, &mut kept, content);
+    let result = answer_said(alloc, &mut kept, said);
     (Host::Kept(kept), result)
 }

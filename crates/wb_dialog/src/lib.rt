@@ -20,6 +20,7 @@
 //! runs it. `laws` says what follows.
 #![tactic(auto)]
 
+mod adding;
 mod answering;
 mod beginning;
 mod blocks;
@@ -39,6 +40,7 @@ mod opened;
 mod parsing;
 mod record_text;
 mod recorded;
+mod said;
 mod texts;
 mod told;
 mod words;
@@ -49,3 +51,4 @@ pub use hosting::host;
 pub use judged_line::{JudgeLine, JudgedLine};
 pub use line::{DriverLine, LINES_VERSION};
 pub use record_text::write_record;
+pub use said::Said;

@@ -2,17 +2,17 @@
 ghost use Rattle.std.specs.Prelude.{◌≡◌, Option, Some, true, IfOk};
 ghost use Rattle.wb_recovery.specs.Timing.{are_constants};
 ghost use Rattle.wb_member.specs.Opened.{opened_with};
-ghost use Rattle.wb_dialog.specs.Doing.{IsHostAt, IsKindAt, LeadsFrom, LeadsOpen};
+ghost use Rattle.wb_dialog.specs.Doing.{IsHostAt, IsKindAt, LeadsFrom};
 ghost use Rattle.wb_dialog.specs.Hosting.{Driven, in_time};
-ghost use Rattle.wb_dialog.specs.JudgedLines.{IsJudgeLine};
-ghost use Rattle.wb_dialog.specs.Kinds.{Kind, due_of, judge_response, line_response};
+ghost use Rattle.wb_dialog.specs.Kinds.{Kind, due_of, response_by};
+ghost use Rattle.wb_dialog.specs.Lines.{IsSaidWithin};
 
 use crate::board::Board;
 use crate::driving::take_driven;
-use crate::fault::{Refusal, Unanswered};
-use crate::judged::{begin_to_judge, take_judged};
-use crate::judged_line::JudgeLine;
+use crate::fault::Unanswered;
+use crate::judged::take_judged;
 use crate::keeping::take_kept;
+use crate::said::Said;
 use crate::told::Told;
 use std::alloc::{AllocError, Global};
 use wb_judging::JudgedMember;
@@ -74,38 +74,18 @@ impl Host {
         }
     }
 
-    /// What a line does that does not begin to judge, and what it comes to; or it is refused, and
-    /// then the host stays as it is. If an allocation fails, nothing is promised of what is left:
-    /// the host is given up.
-    pub fn take(self, alloc: Global, content: &[u8]) -> (Host, Result<Told, Unanswered>)
-        ensures { LeadsOpen self result.0 result.1 (λ tuning s. line_response tuning s content.now) }
-    {
-        match self {
-            Host::Driven { member, board } => take_driven(alloc, member, board, content),
-            Host::Kept(kept) => take_kept(alloc, kept, content),
-            Host::Judged(member) => take_judged(alloc, member, content),
-        }
-    }
-
-    /// From now on it is judged, if it may be.
-    #[tactic(auto, using(crate::proofs::EachKind::is_kept, crate::proofs::EachKind::is_judged))]
-    pub fn judge(
-        self,
-        alloc: Global,
-        tuning: Tuning,
-        line: JudgeLine,
-    ) -> (Host, Result<Told, Unanswered>)
+    /// What a line does, and what it comes to; or it is refused, and then the host stays as it is.
+    /// If an allocation fails, nothing is promised of what is left: the host is given up.
+    pub fn take(self, alloc: Global, tuning: Tuning, said: Said) -> (Host, Result<Told, Unanswered>)
         requires constants { are_constants tuning ≡ true }
-        requires line { IsJudgeLine line }
-        ensures { LeadsFrom (Some self) (Some result.0) result.1 (judge_response tuning line) }
+        requires line { IsSaidWithin said }
+        ensures { LeadsFrom (Some self) (Some result.0) result.1
+            (λ s. response_by tuning s said) }
     {
         match self {
-            Host::Driven { member, board } => begin_to_judge(alloc, tuning, line, member, board),
-            Host::Kept(kept) => (Host::Kept(kept), Err(Unanswered::Refused(Refusal::Kept))),
-            Host::Judged(member) => (
-                Host::Judged(member),
-                Err(Unanswered::Refused(Refusal::Kept)),
-            ),
+            Host::Driven { member, board } => take_driven(alloc, tuning, member, board, said),
+            Host::Kept(kept) => take_kept(alloc, kept, said),
+            Host::Judged(member) => take_judged(alloc, member, said),
         }
     }
 }

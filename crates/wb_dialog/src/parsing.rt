@@ -1,18 +1,23 @@
-//! What a line of a driver says.
-ghost use Rattle.std.specs.Prelude.{◌≡◌, ◌<◌, ◌^◌, IfOk};
+//! What a line of a driver says: the table of first words.
+ghost use Rattle.std.specs.Prelude.{◌≡◌, IfOk};
 ghost use Rattle.wb_names.specs.Moments.{IsMoment};
-ghost use Rattle.wb_words.specs.Adding.{adding_reading};
 ghost use Rattle.wb_words.specs.Reading.{reading as reading_words};
 ghost use Rattle.wb_lines.specs.Words.{words};
-ghost use Rattle.wb_member.specs.Calls.{IsWithin as IsCallWithin};
-ghost use Rattle.wb_member.specs.Questions.{IsAnswerable};
-ghost use Rattle.wb_commands.specs.Parsing.{script_line_of};
-ghost use Rattle.wb_dialog.specs.Lines.{Parses, IsWithin, by_words, unanswered_by, unanswered_words, said_by, added_by, name, call, command, keep_line, question, call_or, script_or, moment_of, came_line, line_of_words, line_of};
+ghost use Rattle.wb_commands.specs.declared.fault.LineFault.TheVariants as faults;
+ghost use Rattle.wb_dialog.specs.JudgedLines.{IsJudgeLine, own_row};
+ghost use Rattle.wb_dialog.specs.Lines.{IsSaidWithin, IsWithin, came, came_by, common_row, judged_by, keep_line, moment_of, name, row, row_of, said_line, said_of, unanswered_by, unless_own};
+ghost use Rattle.wb_dialog.specs.Records.{Reads};
+ghost use Rattle.wb_dialog.specs.Words.{three_of};
+ghost use Rattle.wb_dialog.specs.declared.said.Said.TheVariants as saids;
 
+use crate::adding::add_line;
 use crate::fault::{Refusal, Unanswered};
+use crate::judged_line::JudgeLine;
+use crate::judged_parsing::{came_from, judge_line, own_row};
 use crate::line::DriverLine;
-use crate::words::{behind, is_word};
-use std::alloc::Global;
+use crate::said::Said;
+use crate::words::{behind, is_word, three_words};
+use std::alloc::{AllocError, Global};
 use wb_commands::{
     Command, LineFault, Untaken, datagram, four_words, no_words, number_word, page, parse_line,
     two_words, u32_word,
@@ -21,7 +26,7 @@ use wb_lines::next_word;
 use wb_member::{Call, Query};
 use wb_names::{MAX_MOMENT, Name, PageId};
 use wb_policy::limits::MAX_RATE;
-use wb_words::{WordsFault, read_adding, read_words};
+use wb_words::{WordsFault, read_words};
 
 /// The name of the only four words: creator and number of its page, its source and its number
 /// there.
@@ -73,180 +78,158 @@ fn moment(rest: &[u8]) -> Result<u64, LineFault>
     number_word(now, 0, MAX_MOMENT)
 }
 
-/// The moment, and the datagram whose bytes the second of the only two words spells.
-#[tactic(auto, unfolding(crate::specs::Lines::came_line, crate::specs::Lines::moment_of))]
-fn came_line(alloc: Global, rest: &[u8]) -> Result<DriverLine, Unanswered>
-    ensures line { Parses result (by_words (λ line. line) (came_line (words rest.now))) }
+/// A datagram came in at a moment, without its origin.
+#[tactic(auto, unfolding(crate::specs::Lines::came, crate::specs::Lines::moment_of))]
+fn came(alloc: Global, rest: &[u8]) -> Result<DriverLine, Untaken>
+    ensures line { Reads result (came (words rest.now)) }
     ensures within { IfOk result IsWithin }
 {
     let now = moment(rest)?;
     let (_now, digits) = next_word(rest).ok_or(LineFault::Words)?;
-    match datagram(alloc, digits) {
-        Ok(datagram) => Ok(DriverLine::Came { now, datagram }),
-        Err(fault) => Err(refused(fault)),
-    }
-}
-
-/// The line with this first word and these further ones. Each is returned where it is found: a line
-/// is large, and it would be copied out of each branch of one expression.
-#[tactic(auto, unfolding(crate::specs::Lines::command))]
-fn command(alloc: Global, line: &[u8], word: &[u8], rest: &[u8]) -> Result<DriverLine, Unanswered>
-    ensures line { Parses result (command line.now word.now (words rest.now)) }
-    ensures within { IfOk result IsWithin }
-{
-    if is_word(word, b"say") {
-        return Err(Unanswered::Refused(Refusal::Line(LineFault::Words)));
-    }
-    if is_word(word, b"keep") {
-        return Ok(keep_line(rest)?);
-    }
-    if is_word(word, b"came") {
-        return came_line(alloc, rest);
-    }
-    if is_word(word, b"add") {
-        return Err(Unanswered::Refused(Refusal::Line(LineFault::Words)));
-    }
-    if is_word(word, b"version") {
-        no_words(rest).ok_or(LineFault::Words)?;
-        return Ok(DriverLine::Version);
-    }
-    script_or_own(alloc, line, word, rest)
-}
-
-/// The call with this first word that no script has.
-#[tactic(auto, unfolding(crate::specs::Lines::call))]
-fn call(word: &[u8], rest: &[u8]) -> Result<Call, LineFault>
-    ensures call { result ≡ call word.now (words rest.now) }
-    ensures within { IfOk result IsCallWithin }
-{
-    if is_word(word, b"ask") {
-        return Ok(Call::Ask(name(rest)?));
-    }
-    if is_word(word, b"stop") {
-        return Ok(Call::Stop(name(rest)?));
-    }
-    Err(LineFault::Unknown)
-}
-
-/// The question with this first word that no script asks.
-#[tactic(auto, unfolding(crate::specs::Lines::question))]
-fn question(word: &[u8], rest: &[u8]) -> Result<Query, LineFault>
-    ensures query { result ≡ question word.now (words rest.now) }
-    ensures within { IfOk result IsAnswerable }
-{
-    if is_word(word, b"next") {
-        return Ok(Query::Next(page(rest)?));
-    }
-    if is_word(word, b"view") {
-        return Ok(Query::View(page(rest)?));
-    }
-    if is_word(word, b"known") {
-        no_words(rest).ok_or(LineFault::Words)?;
-        return Ok(Query::Known);
-    }
-    Err(LineFault::Unknown)
-}
-
-/// A call, or, if none has this word, a question.
-fn call_or_question(word: &[u8], rest: &[u8]) -> Result<DriverLine, Unanswered>
-    ensures line { Parses result
-        (call_or (question word.now (words rest.now)) (call word.now (words rest.now))) }
-    ensures within { IfOk result IsWithin }
-{
-    match call(word, rest) {
-        Ok(call) => Ok(DriverLine::Script(Command::Call(call))),
-        Err(LineFault::Unknown) => {
-            let query = question(word, rest)?;
-            Ok(DriverLine::Script(Command::Question(query)))
-        }
-        Err(fault) => Err(Unanswered::Refused(Refusal::Line(fault))),
-    }
-}
-
-/// A line of a script, or, if no script has such a line, a call or a question.
-fn script_or_own(
-    alloc: Global,
-    line: &[u8],
-    word: &[u8],
-    rest: &[u8],
-) -> Result<DriverLine, Unanswered>
-    ensures line { Parses result
-        (script_or (question word.now (words rest.now)) (call word.now (words rest.now))
-        (script_line_of line.now)) }
-    ensures within { IfOk result IsWithin }
-{
-    match parse_line(alloc, line) {
-        Ok(line) => Ok(DriverLine::Script(line)),
-        Err(Untaken::Line(LineFault::Unknown)) => call_or_question(word, rest),
-        Err(fault) => Err(refused(fault)),
-    }
-}
-
-/// A line of a script.
-fn script_line(alloc: Global, line: &[u8]) -> Result<DriverLine, Unanswered>
-    ensures line { Parses result (by_words DriverLine.Script (script_line_of line.now)) }
-    ensures within { IfOk result IsWithin }
-{
-    match parse_line(alloc, line) {
-        Ok(line) => Ok(DriverLine::Script(line)),
-        Err(fault) => Err(refused(fault)),
-    }
-}
-
-/// A line whose first word says what it is.
-fn words_line(alloc: Global, line: &[u8]) -> Result<DriverLine, Unanswered>
-    ensures line { Parses result (line_of_words line.now (words line.now)) }
-    ensures within { IfOk result IsWithin }
-{
-    if let Some((word, rest)) = next_word(line) {
-        return command(alloc, line, word, rest);
-    }
-    script_line(alloc, line)
-}
-
-/// Why what is said in words was not read.
-fn refused_words(fault: WordsFault) -> Unanswered
-    ensures { result ≡ unanswered_words fault }
-{
-    match fault {
-        WordsFault::Word(wrong) => Unanswered::Refused(Refusal::Line(LineFault::Word(wrong))),
-        WordsFault::Memory => Unanswered::Memory,
-    }
+    let datagram = datagram(alloc, digits)?;
+    Ok(DriverLine::Came { now, datagram })
 }
 
 /// What is to be said.
-fn said(alloc: Global, words: &[u8]) -> Result<DriverLine, Unanswered>
-    ensures line { Parses result (said_by (reading_words words.now)) }
+fn said(alloc: Global, words: &[u8]) -> Result<DriverLine, Untaken>
+    ensures line { Reads result (said_line (reading_words words.now)) }
     ensures within { IfOk result IsWithin }
 {
     match read_words(alloc, words) {
         Ok(datagram) => Ok(DriverLine::Say(datagram)),
-        Err(fault) => Err(refused_words(fault)),
+        Err(WordsFault::Word(wrong)) => Err(Untaken::Line(LineFault::Word(wrong))),
+        Err(WordsFault::Memory) => Err(Untaken::Memory),
     }
 }
 
-/// A drawing that is to be added.
-fn added(alloc: Global, words: &[u8]) -> Result<DriverLine, Unanswered>
-    ensures line { Parses result (added_by (adding_reading words.now)) }
+/// The line of any host with this first word and these further ones.
+#[tactic(auto, unfolding(crate::specs::Lines::common_row))]
+fn common_row(alloc: Global, line: &[u8], word: &[u8], rest: &[u8]) -> Result<DriverLine, Untaken>
+    ensures line { Reads result (common_row line.now word.now (words rest.now)) }
     ensures within { IfOk result IsWithin }
 {
-    match read_adding(alloc, words) {
-        Ok(adding) => Ok(DriverLine::Add(adding)),
-        Err(fault) => Err(refused_words(fault)),
+    if is_word(word, b"say") {
+        let words = behind(line, b"say").ok_or(LineFault::Words)?;
+        said(alloc, words)
+    } else if is_word(word, b"keep") {
+        Ok(keep_line(rest)?)
+    } else if is_word(word, b"ask") {
+        Ok(DriverLine::Script(Command::Call(Call::Ask(name(rest)?))))
+    } else if is_word(word, b"stop") {
+        Ok(DriverLine::Script(Command::Call(Call::Stop(name(rest)?))))
+    } else if is_word(word, b"next") {
+        Ok(DriverLine::Script(Command::Question(Query::Next(page(rest)?))))
+    } else if is_word(word, b"view") {
+        Ok(DriverLine::Script(Command::Question(Query::View(page(rest)?))))
+    } else if is_word(word, b"known") {
+        no_words(rest).ok_or(LineFault::Words)?;
+        Ok(DriverLine::Script(Command::Question(Query::Known)))
+    } else if is_word(word, b"version") {
+        no_words(rest).ok_or(LineFault::Words)?;
+        Ok(DriverLine::Version)
+    } else {
+        Err(Untaken::Line(LineFault::Unknown))
     }
 }
 
-/// The line that the bytes say, which stand without their end, or its first fault: of what is to be
-/// said or added, the first word that is wrong; else that of a script's line.
-pub(crate) fn read_line(alloc: Global, line: &[u8]) -> Result<DriverLine, Unanswered>
-    ensures line { Parses result (line_of line.now) }
-    ensures within { IfOk result IsWithin }
+/// Bytes came in, from an origin or without one.
+fn came_line(alloc: Global, rest: &[u8]) -> Result<Said, AllocError>
+    ensures line { IfOk result (λ said.
+        said ≡ came_by (words rest.now) (three_of (words rest.now))) }
+    ensures within { IfOk result IsSaidWithin }
 {
-    if let Some(words) = behind(line, b"say") {
-        return said(alloc, words);
+    let Some((now, place, digits)) = three_words(rest) else {
+        return match came(alloc, rest) {
+            Ok(line) => Ok(Said::Unjudged(Ok(line), LineFault::Words)),
+            Err(Untaken::Line(fault)) => Ok(Said::Unjudged(Err(fault), LineFault::Words)),
+            Err(Untaken::Memory) => Err(AllocError),
+        };
+    };
+    match came_from(alloc, now, place, digits) {
+        Ok(line) => Ok(Said::Own(Ok(line), LineFault::Words)),
+        Err(Untaken::Line(fault)) => Ok(Said::Own(Err(fault), LineFault::Words)),
+        Err(Untaken::Memory) => Err(AllocError),
     }
-    if let Some(words) = behind(line, b"add") {
-        return added(alloc, words);
+}
+
+/// How a host begins to be judged.
+fn judged_by(read: Result<JudgeLine, LineFault>) -> Said
+    requires { IfOk read IsJudgeLine }
+    ensures line { result ≡ judged_by read }
+    ensures within { IsSaidWithin result }
+{
+    match read {
+        Ok(line) => Said::Judge(line),
+        Err(fault) => Said::Common(Err(fault)),
     }
-    words_line(alloc, line)
+}
+
+/// A line that a judged host alone has.
+fn own_line(alloc: Global, line: &[u8], word: &[u8], rest: &[u8]) -> Result<Said, AllocError>
+    ensures line { IfOk result (λ said.
+        said ≡ saids.Own (own_row line.now word.now (words rest.now)) faults.Unknown) }
+    ensures within { IfOk result IsSaidWithin }
+{
+    match own_row(alloc, line, word, rest) {
+        Ok(line) => Ok(Said::Own(Ok(line), LineFault::Unknown)),
+        Err(Untaken::Line(fault)) => Ok(Said::Own(Err(fault), LineFault::Unknown)),
+        Err(Untaken::Memory) => Err(AllocError),
+    }
+}
+
+/// A line of any host, or, if none has this word, one that a judged host has.
+fn common_or_own(alloc: Global, line: &[u8], word: &[u8], rest: &[u8]) -> Result<Said, AllocError>
+    ensures line { IfOk result (λ said. said ≡ unless_own
+        (own_row line.now word.now (words rest.now))
+        (common_row line.now word.now (words rest.now))) }
+    ensures within { IfOk result IsSaidWithin }
+{
+    match common_row(alloc, line, word, rest) {
+        Ok(line) => Ok(Said::Common(Ok(line))),
+        Err(Untaken::Line(LineFault::Unknown)) => own_line(alloc, line, word, rest),
+        Err(Untaken::Line(fault)) => Ok(Said::Common(Err(fault))),
+        Err(Untaken::Memory) => Err(AllocError),
+    }
+}
+
+/// The line with this first word and these further ones.
+#[tactic(auto, unfolding(crate::specs::Lines::row))]
+fn row(alloc: Global, line: &[u8], word: &[u8], rest: &[u8]) -> Result<Said, AllocError>
+    ensures line { IfOk result (λ said. said ≡ row line.now word.now (words rest.now)) }
+    ensures within { IfOk result IsSaidWithin }
+{
+    if is_word(word, b"came") {
+        came_line(alloc, rest)
+    } else if is_word(word, b"add") {
+        add_line(alloc, line)
+    } else if is_word(word, b"judge") {
+        Ok(judged_by(judge_line(rest)))
+    } else {
+        common_or_own(alloc, line, word, rest)
+    }
+}
+
+/// A line that no script has.
+fn row_of(alloc: Global, line: &[u8]) -> Result<Said, AllocError>
+    ensures line { IfOk result (λ said. said ≡ row_of line.now (words line.now)) }
+    ensures within { IfOk result IsSaidWithin }
+{
+    match next_word(line) {
+        None => Ok(Said::Common(Err(LineFault::Unknown))),
+        Some((word, rest)) => row(alloc, line, word, rest),
+    }
+}
+
+/// What the line says, which stands without its end, or its first fault: of what is to be said or
+/// added, the first word that is wrong; else that of a script's line.
+pub(crate) fn read_line(alloc: Global, line: &[u8]) -> Result<Said, AllocError>
+    ensures line { IfOk result (λ said. said ≡ said_of line.now) }
+    ensures within { IfOk result IsSaidWithin }
+{
+    match parse_line(alloc, line) {
+        Ok(read) => Ok(Said::Common(Ok(DriverLine::Script(read)))),
+        Err(Untaken::Line(LineFault::Unknown)) => row_of(alloc, line),
+        Err(Untaken::Line(fault)) => Ok(Said::Common(Err(fault))),
+        Err(Untaken::Memory) => Err(AllocError),
+    }
 }

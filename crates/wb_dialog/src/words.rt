@@ -2,10 +2,8 @@
 ghost use Rattle.std.specs.Prelude.{◌≡◌, ◌≤◌, IfOk, IfSome};
 ghost use Rattle.std.specs.Option.{option_map};
 ghost use Rattle.std.specs.Str.{bytes_eq};
-ghost use Rattle.wb_words.specs.Words.{split_once};
 ghost use Rattle.wb_lines.specs.Words.{words};
-ghost use Rattle.wb_dialog.specs.Lines.{part_behind};
-ghost use Rattle.wb_dialog.specs.Words.{number_or_none, origin, six_of, three_of};
+ghost use Rattle.wb_dialog.specs.Words.{behind, number_or_none, origin, six_of, three_of};
 
 use wb_commands::{LineFault, four_words, number_word, one_word};
 use wb_judge::Origin;
@@ -22,7 +20,7 @@ pub(crate) fn is_word(word: &[u8], other: &[u8]) -> bool
 
 /// What follows `opener` and a space, if a line begins with these.
 pub(crate) fn behind<'a>(line: &'a [u8], opener: &[u8]) -> Option<&'a [u8]>
-    ensures { option_map (λ x. x.now) result ≡ part_behind opener.now (split_once 32 line.now) }
+    ensures { option_map (λ x. x.now) result ≡ behind opener.now line.now }
 {
     match split_once(line, b' ') {
         Some((word, rest)) => {

@@ -13,24 +13,28 @@ use Rattle.wb_words.specs.Reading.{reading}
 use Rattle.wb_words.specs.Adding.{adding_reading}
 use Rattle.wb_words.proofs.EntryLists.{Reads}
 use Rattle.wb_words.specs.declared.adding.Adding.{Adding}
+use Rattle.wb_words.specs.declared.fault.WordFault.TheVariants as word_faults
 use Rattle.wb_words.specs.declared.fault.WrongWord.{WrongWord}
 use Rattle.wb_words.proofs.LineLaws.{reading_takes}
 use Rattle.wb_words.proofs.Splitting.{NoSpaces-words}
-use Rattle.wb_commands.specs.Parsing.{number, none_of, two_of, or_fault, datagram, handed_in, script_line_of}
+use Rattle.wb_commands.specs.Parsing.{number, none_of, two_of, or_fault, datagram, handed_in, page, script_line_of}
 use Rattle.wb_commands.specs.declared.command.Command.{Command}
-use Rattle.wb_commands.specs.declared.command.Command.TheVariants as lines
-use Rattle.wb_member.specs.declared.calls.Call.{Call}
-use Rattle.wb_member.specs.declared.questions.Query.{Query}
 use Rattle.wb_commands.specs.declared.fault.LineFault.{LineFault}
 use Rattle.wb_commands.specs.declared.fault.LineFault.TheVariants as faults
 use Rattle.wb_dialog.specs.Dialog.{says_line}
-use Rattle.wb_dialog.specs.Lines.{asks as asks_line, by_words, call, call_or, name, command, question, script_or, line_of_words, keep_line, came_line, moment_of, words_behind, said_by, said_part, added_by, added_part, line_behind, line_of}
+use Rattle.wb_dialog.specs.Adding.{add_line, added_by, begins_with_page, timed, untimed, with_time}
+use Rattle.wb_dialog.specs.JudgedLines.{judge_line, own_row}
+use Rattle.wb_dialog.specs.Lines.{as_refusal, came, came_by, common_row, judged_by, keep_line, line_of, moment_of, name, row, row_of, said_line, said_of, unjudged_line, unless_own, unless_script, words_behind}
+use Rattle.wb_dialog.specs.Words.{behind as words_after, three_of}
+use Rattle.wb_dialog.specs.declared.judged_line.JudgeLine.{JudgeLine}
+use Rattle.wb_dialog.specs.declared.judged_line.JudgedLine.{JudgedLine}
+use Rattle.wb_dialog.specs.declared.said.Said.{Said}
 use Rattle.wb_dialog.specs.declared.fault.Refusal.{Refusal}
 use Rattle.wb_dialog.specs.declared.line.DriverLine.{DriverLine}
-use Rattle.wb_dialog.specs.declared.line.DriverLine.TheVariants.{Script, Say, Keep, Came, Add, Version}
+use Rattle.wb_dialog.specs.declared.line.DriverLine.TheVariants.{Script, Say, Came, Add}
 use Rattle.wb_laws_hosts.proofs.AddedLines.{IsAdding, adding_fits}
 use Rattle.wb_laws_hosts.proofs.ScriptLines as scripts
-use Rattle.wb_laws_hosts.proofs.ScriptLines.{Asks, IsWithin, IsDigitsOf, bound, behind, number_fits, datagram_fits, datagram_digits, line_fits}
+use Rattle.wb_laws_hosts.proofs.ScriptLines.{Asks, IsWithin, IsDigitsOf, bound, behind, either, number_fits, datagram_fits, datagram_digits, line_fits}
 use Rattle.wb_laws_hosts.specs.Laws.{SaysDatagram, LinesCarryBytes}
 use Rattle.wb_policy.specs.declared.limits.TheConstants.{MAX_RATE}
 
@@ -46,14 +50,9 @@ Carries P line = Unit {0}
 abbrev pub Fits : DriverLine → Type 0
 Fits line = Carries IsDatagram line
 
-by_words_fits : {A : Type 0} (P : A → Type 0) (Q : DriverLine → Type 0) (line : A → DriverLine) (r : Result A LineFault) → IfOk r P → ((x : A) → P x → Q (line x)) → IfOk (by_words line r) Q
-by_words_fits P Q line (Ok x) p q = q x p
-by_words_fits P Q line (Err e) p q = tt
-
--- a line that carries nothing
-free : {A : Type 0} (Q : DriverLine → Type 0) (line : A → DriverLine) (r : Result A LineFault) → ((x : A) → Q (line x)) → IfOk (by_words line r) Q
-free Q line (Ok x) q = q x
-free Q line (Err e) q = tt
+as_refusal_fits : (P : Datagram → Type 0) (r : Result DriverLine LineFault) → IfOk r (Carries P) → IfOk (as_refusal r) (Carries P)
+as_refusal_fits P (Ok line) has = has
+as_refusal_fits P (Err e) has = tt
 
 -- a datagram in words
 reading_fits : (text : List ℕ) → IfOk (reading text) IsDatagram
@@ -61,22 +60,6 @@ reading_fits text = from (reading text) refl where
   from : (r : Result Datagram WrongWord) → reading text ≡ r → IfOk r IsDatagram
   from (Ok v) e = (reading_takes (words_of_text text) v (NoSpaces-words text) e).1
   from (Err wrong) e = tt
-
-said_fits : (P : Datagram → Type 0) (r : Result Datagram WrongWord) → IfOk r IsDatagram → IfOk (said_by r) (Carries P)
-said_fits P (Ok v) fit = fit
-said_fits P (Err wrong) fit = tt
-
--- ---- lines of a self-managing host
-
-abbrev IsKept : DriverLine → Type 0
-IsKept (Keep rate listen) = Unit {0}
-IsKept (Came now v) = (now < 2 ^ 48) × IsDatagram v
-IsKept line = ⊥
-
-kept_carries : (P : Datagram → Type 0) (line : DriverLine) → IsKept line → Carries P line
-kept_carries P (Keep rate listen) is = tt
-kept_carries P (Came now v) is = is
-kept_carries P line is = absurd is
 
 moment_fits : (arguments : List (List ℕ)) → IfOk (moment_of arguments) (λ now. now < 2 ^ 48)
 unfolding moment_of
@@ -86,70 +69,87 @@ moment_fits arguments = behind (λ now. now < 2 ^ 48) (or_fault faults.Words (tw
       weaker_result (Ok n) fit = let a = fit.1 in omega arith
       weaker_result (Err e) fit = tt
 
-keep_fits : (arguments : List (List ℕ)) → IfOk (keep_line arguments) IsKept
-unfolding keep_line
-keep_fits arguments = behind IsKept (or_fault faults.Words (two_of arguments)) _ (λ ws.
-    behind IsKept (number 1 MAX_RATE ws.0) _ (λ rate. behind IsKept (number 0 (2 ^ 32 - 1) ws.1) _ (λ listen. tt)))
-
-came_line_fits : (arguments : List (List ℕ)) → IfOk (came_line arguments) IsKept
-unfolding came_line
-came_line_fits arguments = bound (λ now. now < 2 ^ 48) IsKept (moment_of arguments) _ (moment_fits arguments) (λ now early. bound IsDatagram IsKept (datagram (words_behind arguments)) _ (datagram_fits (words_behind arguments)) (λ v fit. (early, fit)))
-
 module _ (P : Datagram → Type 0) where
   abbrev Has : DriverLine → Type 0
   Has line = Carries P line
 
-  either : (b : Bool) (x y : Result DriverLine Refusal) → IfOk x Has → IfOk y Has → IfOk (if b then x else y) Has
-  either true x y p q = p
-  either false x y p q = q
+  -- what it says to a host without a judge carries this
+  abbrev SaidHas : Said → Type 0
+  SaidHas said = IfOk (unjudged_line said) Has
 
-  abbrev Calls : Call → Type 0
-  Calls call = scripts.Carries P (lines.Call call)
+  keep_fits : (arguments : List (List ℕ)) → IfOk (keep_line arguments) Has
+  unfolding keep_line
+  keep_fits arguments = behind Has (or_fault faults.Words (two_of arguments)) _ (λ ws.
+      behind Has (number 1 MAX_RATE ws.0) _ (λ rate. behind Has (number 0 (2 ^ 32 - 1) ws.1) _ (λ listen. tt)))
 
-  call_fits : (word : List ℕ) (arguments : List (List ℕ)) → IfOk (call word arguments) Calls
-  unfolding call
-  call_fits word arguments = scripts.either Calls (bytes_eq word (codes "ask")) _ _ (behind Calls (name arguments) _ (λ n. tt))
-      (scripts.either Calls (bytes_eq word (codes "stop")) _ _ (behind Calls (name arguments) _ (λ n. tt)) tt)
+  said_fits : (r : Result Datagram WrongWord) → IfOk r IsDatagram → IfOk (said_line r) Has
+  said_fits (Ok v) fit = fit
+  said_fits (Err wrong) fit = tt
 
-  call_or_fits : (query : Result Query LineFault) (call : Result Call LineFault) → IfOk call Calls → IfOk (call_or query call) Has
-  call_or_fits query (Ok call) has = has
-  call_or_fits query (Err faults.Unknown) has = free Has asks_line query (λ q. tt)
-  call_or_fits query (Err e) has = tt
+  common_fits : (line word : List ℕ) (arguments : List (List ℕ)) → IfOk (common_row line word arguments) Has
+  unfolding common_row
+  common_fits line word arguments =
+      either Has (bytes_eq word (codes "say")) _ _ (behind Has (or_fault faults.Words (words_after (codes "say") line)) _ (λ rest. said_fits (reading rest) (reading_fits rest)))
+      (either Has (bytes_eq word (codes "keep")) _ _ (keep_fits arguments)
+      (either Has (bytes_eq word (codes "ask")) _ _ (behind Has (name arguments) _ (λ n. tt))
+      (either Has (bytes_eq word (codes "stop")) _ _ (behind Has (name arguments) _ (λ n. tt))
+      (either Has (bytes_eq word (codes "next")) _ _ (behind Has (page arguments) _ (λ p. tt))
+      (either Has (bytes_eq word (codes "view")) _ _ (behind Has (page arguments) _ (λ p. tt))
+      (either Has (bytes_eq word (codes "known")) _ _ (behind Has (or_fault faults.Words (none_of arguments)) _ (λ nothing. tt))
+      (either Has (bytes_eq word (codes "version")) _ _ (behind Has (or_fault faults.Words (none_of arguments)) _ (λ nothing. tt)) tt)))))))
 
-  script_or_fits : (query : Result Query LineFault) (call : Result Call LineFault) (said : Result Command LineFault) → IfOk call Calls → IfOk said (scripts.Carries P) → IfOk (script_or query call said) Has
-  script_or_fits query call (Ok line) calls has = has
-  script_or_fits query call (Err faults.Unknown) calls has = call_or_fits query call calls
-  script_or_fits query call (Err e) calls has = tt
+  came_fits : (arguments : List (List ℕ)) (ws : Option (List ℕ × List ℕ × List (List ℕ))) → SaidHas (came_by arguments ws)
+  unfolding came
+  came_fits arguments None = bound (λ now. now < 2 ^ 48) Has (moment_of arguments) _ (moment_fits arguments) (λ now early. bound IsDatagram Has (datagram (words_behind arguments)) _ (datagram_fits (words_behind arguments)) (λ v fit. (early, fit)))
+  came_fits arguments (Some ws) = tt
 
-  module _ (line : List ℕ) (asks : Asks P line) where
-    script_fits : IfOk (by_words Script (script_line_of line)) Has
-    script_fits = by_words_fits (scripts.Carries P) Has Script (script_line_of line) (line_fits P line asks) (λ l has. has)
+  drawing_fits : (r : Result Adding WrongWord) → Reads IsAdding r → IfOk (with_time r) Has
+  drawing_fits (Ok adding) fit = fit.it
+  drawing_fits (Err wrong) fit = tt
 
-    command_fits : (word : List ℕ) (arguments : List (List ℕ)) → IfOk (command line word arguments) Has
-    unfolding command
-    command_fits word arguments =
-        either (bytes_eq word (codes "say")) _ _ tt
-        (either (bytes_eq word (codes "keep")) _ _ (by_words_fits IsKept Has (λ l. l) (keep_line arguments) (keep_fits arguments) (kept_carries P))
-        (either (bytes_eq word (codes "came")) _ _ (by_words_fits IsKept Has (λ l. l) (came_line arguments) (came_line_fits arguments) (kept_carries P))
-        (either (bytes_eq word (codes "add")) _ _ tt
-        (either (bytes_eq word (codes "version")) _ _ (free Has (λ nothing. Version) (or_fault faults.Words (none_of arguments)) (λ nothing. tt))
-        (script_or_fits (question word arguments) (call word arguments) (script_line_of line) (call_fits word arguments) (line_fits P line asks))))))
+  added_fits : (text : List ℕ) (parts : Option (List ℕ × List ℕ)) → SaidHas (added_by text parts)
+  added_fits text None = drawing_fits (adding_reading text) (adding_fits text)
+  added_fits text (Some parts) = by (begins_with_page parts.1) where
+    by : (b : Bool) → SaidHas (if b then untimed parts.0 parts.1 else timed word_faults.Page text)
+    by true = tt
+    by false = drawing_fits (adding_reading text) (adding_fits text)
 
-    words_fit : (ws : List (List ℕ)) → IfOk (line_of_words line ws) Has
-    words_fit [] = script_fits
-    words_fit (word ∷ arguments) = command_fits word arguments
+  add_fits : (text : Option (List ℕ)) → SaidHas (add_line text)
+  add_fits None = tt
+  add_fits (Some text) = added_fits text (split_once 32 text)
 
-    added_fits : (r : Result Adding WrongWord) → Reads IsAdding r → IfOk (added_by r) Has
-    added_fits (Ok adding) fit = fit.it
-    added_fits (Err wrong) fit = tt
+  judged_fits : (r : Result JudgeLine LineFault) → SaidHas (judged_by r)
+  judged_fits (Ok line) = tt
+  judged_fits (Err e) = tt
 
-    part_fits : (said added : Option (List ℕ)) → IfOk (line_behind line said added) Has
-    part_fits None None = words_fit (words line)
-    part_fits None (Some rest) = added_fits (adding_reading rest) (adding_fits rest)
-    part_fits (Some rest) added = said_fits P (reading rest) (reading_fits rest)
+  unless_fits : (own : Result JudgedLine LineFault) (r : Result DriverLine LineFault) → IfOk r Has → SaidHas (unless_own own r)
+  unless_fits own (Ok line) has = has
+  unless_fits own (Err faults.Unknown) has = tt
+  unless_fits own (Err e) has = tt
 
-    pub text_fits : IfOk (line_of line) Has
-    text_fits = part_fits (said_part (split_once 32 line)) (added_part (split_once 32 line))
+  row_fits : (line word : List ℕ) (arguments : List (List ℕ)) → SaidHas (row line word arguments)
+  unfolding row
+  row_fits line word arguments = by (bytes_eq word (codes "came")) (bytes_eq word (codes "add")) (bytes_eq word (codes "judge")) where
+    other : Said
+    other = unless_own (own_row line word arguments) (common_row line word arguments)
+
+    by : (c a j : Bool) → SaidHas (if c then came_by arguments (three_of arguments) else (if a then add_line (words_after (codes "add") line) else (if j then judged_by (judge_line arguments) else other)))
+    by true a j = came_fits arguments (three_of arguments)
+    by false true j = add_fits (words_after (codes "add") line)
+    by false false true = judged_fits (judge_line arguments)
+    by false false false = unless_fits (own_row line word arguments) (common_row line word arguments) (common_fits line word arguments)
+
+  words_fit : (line : List ℕ) (ws : List (List ℕ)) → SaidHas (row_of line ws)
+  words_fit line [] = tt
+  words_fit line (word ∷ arguments) = row_fits line word arguments
+
+  script_fits : (line : List ℕ) (r : Result Command LineFault) → IfOk r (scripts.Carries P) → SaidHas (unless_script line r)
+  script_fits line (Ok read) has = has
+  script_fits line (Err faults.Unknown) has = words_fit line (words line)
+  script_fits line (Err e) has = tt
+
+  pub text_fits : (line : List ℕ) → Asks P line → IfOk (line_of line) Has
+  text_fits line asks = as_refusal_fits P (unjudged_line (said_of line)) (script_fits line (script_line_of line) (line_fits P line asks))
 
 -- ---- what it carries is in range
 
