@@ -1,5 +1,5 @@
 -- A datagram that came: what becomes of it, by what each part of the call does.
-use Rattle.std.proofs.Common.{◌≡◌, ◌∙◌, ℕ, List, [], ◌++◌, None, ap, append-nil, arith, drop, refl, subst, sym, true}
+use Rattle.std.proofs.Common.{◌≡◌, ◌∙◌, ℕ, List, [], ◌++◌, None, ap, append-nil, append_assoc, arith, drop, refl, subst, sym, true}
 use Rattle.std.specs.Prelude.{IsTrue, Option, Result, Ok, Err, Some, is_some, nat_le}
 use Rattle.std.specs.Option.{option_map}
 use Rattle.std.proofs.lemmas.Bool.Decides.{nat_tests}
@@ -62,7 +62,7 @@ not_refused X Y f e r is none gives =
 pub record Weighs (now : ℕ) (o : Origin) (v : Datagram) (f : Facts) (k : KeptValue) (j0 j1 : Judge) (r : Verdict) (first : List RecordLine) : Type 0 where
   pub judged : r ≡ verdict o v f j0
   pub judge : j1 ≡ after_judging o v f j0
-  pub lines : (k' : Keeping) → IsKeptAt k k' → first ≡ freed_lines o j0.strange.given j1.strange.given k'.host.is.held ++ (mark_lines f.at v r.why k' ++ owner_lines o v j0 j1)
+  pub lines : (k' : Keeping) → IsKeptAt k k' → first ≡ (freed_lines o j0.strange.given j1.strange.given k'.host.is.held ++ mark_lines f.at v r.why k') ++ owner_lines o v j0 j1
 
 pub took : (now : ℕ) (o : Origin) (v : Datagram) (h : Judged) (k0 k1 k2 : KeptValue) (j0 j1 j2 : Judge) (f : Facts) (r : Verdict) (held : ℕ) (sent : List Datagram) (fate : Option Fate) (lines : List RecordLine) (e0 e1 e2 e3 : List Event) (new : JudgedValue)
     → IsJudgedAt (record { kept = k0; judge = j0 }) h → k1 ≡ k0 → f.at ≡ now → ((k : Keeping) → IsKeptAt k0 k → f ≡ facts_of now v k)
@@ -86,10 +86,11 @@ took now o v h k0 k1 k2 j0 j1 j2 f r held sent fate lines e0 e1 e2 e3 new at sam
     let became = (does h.kept at.kept).2 in
     let records : lines ≡ first_lines line h =
     weighs.lines h.kept (subst (λ (v : KeptValue). IsKeptAt v h.kept) (sym same) at.kept)
-    ∙ ap (λ (j : Judge). freed_lines o j.strange.given j1.strange.given h.kept.host.is.held ++ (mark_lines f.at v r.why h.kept ++ owner_lines o v j j1)) at.judge
-    ∙ ap (λ (j : Judge). freed_lines o h.judge.strange.given j.strange.given h.kept.host.is.held ++ (mark_lines f.at v r.why h.kept ++ owner_lines o v h.judge j)) judged
-    ∙ ap (λ (n : ℕ). freed_lines o h.judge.strange.given (judge_after now o v h).strange.given h.kept.host.is.held ++ (mark_lines n v r.why h.kept ++ owner_lines o v h.judge (judge_after now o v h))) moment
-    ∙ ap (λ (w : Option Why). freed_lines o h.judge.strange.given (judge_after now o v h).strange.given h.kept.host.is.held ++ (mark_lines now v w h.kept ++ owner_lines o v h.judge (judge_after now o v h))) why in
+    ∙ ap (λ (j : Judge). (freed_lines o j.strange.given j1.strange.given h.kept.host.is.held ++ mark_lines f.at v r.why h.kept) ++ owner_lines o v j j1) at.judge
+    ∙ ap (λ (j : Judge). (freed_lines o h.judge.strange.given j.strange.given h.kept.host.is.held ++ mark_lines f.at v r.why h.kept) ++ owner_lines o v h.judge j) judged
+    ∙ ap (λ (n : ℕ). (freed_lines o h.judge.strange.given (judge_after now o v h).strange.given h.kept.host.is.held ++ mark_lines n v r.why h.kept) ++ owner_lines o v h.judge (judge_after now o v h)) moment
+    ∙ ap (λ (w : Option Why). (freed_lines o h.judge.strange.given (judge_after now o v h).strange.given h.kept.host.is.held ++ mark_lines now v w h.kept) ++ owner_lines o v h.judge (judge_after now o v h)) why
+    ∙ append_assoc (freed_lines o h.judge.strange.given (judge_after now o v h).strange.given h.kept.host.is.held) (mark_lines now v (verdict_on now o v h).why h.kept) (owner_lines o v h.judge (judge_after now o v h)) in
     let goes = went now lines Others (handed line h) start mid new held sent fate e1 e2 does refl kept judge tells in
     performed line h old start new lines e1 e2 e3 at refl
     (hears ∙ ap (λ (fate : Option Fate). after_fate now o v fate j1) became ∙ ap (λ (j : Judge). after_fate now o v (fate_by (handed line h) h.kept) j) judged)

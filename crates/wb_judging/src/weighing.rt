@@ -41,9 +41,9 @@ pub(crate) fn weigh(
     ensures verdict { IfOk result (λ w. w.verdict ≡
         verdict origin datagram.now facts.now judge.old) }
     ensures lines { IfOk result (λ w. (k : Keeping) → IsKeptAt kept.now k → w.lines.items ≡
-        freed_lines origin judge.old.strange.given judge.new.strange.given k.host.is.held
-        ++ (mark_lines facts.now.at datagram.now w.verdict.why k
-        ++ owner_lines origin datagram.now judge.old judge.new)) }
+        (freed_lines origin judge.old.strange.given judge.new.strange.given k.host.is.held
+        ++ mark_lines facts.now.at datagram.now w.verdict.why k)
+        ++ owner_lines origin datagram.now judge.old judge.new) }
 {
     let speaker = speaker_in(datagram);
     let owner = owner_by(judge, speaker);
