@@ -20,7 +20,7 @@ from .sources import CRATES, TOP
 LINES = (TOP / "docs" / "HOST-LINES.md").read_text()
 HEADER = (TOP / "include" / "wb.h").read_text()
 HOST_OF_SCRIPTS = TOP / "web" / "member" / "host.js"
-SESSIONS = (CRATES / "wb_judged_sessions" / "specs" / "Sessions.antt").read_text()
+SESSIONS = "".join(path.read_text() for path in sorted((CRATES / "wb_judged_sessions" / "specs").glob("*.antt")))
 
 # each case of `JudgedCall`, and the first words of its lines
 CASES = {"Starts": {"board", "judge", "held"}, "Takes": {"came", "tick", "add", "wall", "gone", "held"}, "Tunes": {"tuning"}}
@@ -165,7 +165,8 @@ def test_finds_other_forms(driver: str) -> None:
 
 def test_cases() -> None:
     """A judged session has these cases, and no other."""
-    assert re.findall(r"^  (\w+) : .*→ JudgedCall$", SESSIONS, re.M) == list(CASES)
+    declared = re.findall(r"^pub data JudgedCall : .*\n((?:  .*\n)+)", SESSIONS, re.M)
+    assert [re.findall(r"^  (\w+) :", block, re.M) for block in declared] == [list(CASES)]
     assert set.union(ASKS, *CASES.values()) <= host_words()
 
 
