@@ -56,31 +56,35 @@ pub(crate) fn begin_to_judge(
 
 /// A line that any host has is answered as by its self-managing member, but for a tick, of which
 /// its judge hears too.
-#[tactic(auto, using(crate::proofs::EachKind::leads_common, crate::proofs::EachKind::leads_tick))]
 fn take_common(
     alloc: Global,
     mut member: JudgedMember,
-    line: DriverLine,
+    line: &DriverLine,
 ) -> (Host, Result<Told, Unanswered>)
-    requires { IsWithin line }
-    ensures { LeadsJudged member result.0 result.1 (common_response line) }
+    requires { IsWithin line.now }
+    ensures { LeadsJudged member result.0 result.1 (common_response line.now) }
 {
-    if let DriverLine::Script(Command::Call(MemberCall::Tick { now })) = line {
-        let news = News::Nothing;
-        let told = answer(
-            alloc,
-            &mut member,
-            JudgedLine::Call(Call::Passed { now, news }),
-        );
-        return (Host::Judged(member), told);
+    match line {
+        DriverLine::Script(Command::Call(MemberCall::Tick { now })) => {
+            let (now, news) = (*now, News::Nothing);
+            let told = answer(
+                alloc,
+                &mut member,
+                JudgedLine::Call(Call::Passed { now, news }),
+            );
+            (Host::Judged(member), told)
+        }
+        line => {
+            let (mut kept, judge) = member.into_parts();
+            let told = answer_kept(alloc, &mut kept, line);
+            (Host::Judged(JudgedMember::of_parts(kept, judge)), told)
+        }
     }
-    let (mut kept, judge) = member.into_parts();
-    let result = answer_kept(alloc, &mut kept, &line);
-    (Host::Judged(JudgedMember::of_parts(kept, judge)), result)
 }
 
 /// What a line does at a judged host, and what it comes to; or it is refused, and then the host
 /// stays as it is.
+#[tactic(auto, using(crate::proofs::EachKind::leads_own, crate::proofs::EachKind::leads_not))]
 pub(crate) fn take_judged(
     alloc: Global,
     mut member: JudgedMember,
@@ -90,7 +94,7 @@ pub(crate) fn take_judged(
     ensures { LeadsJudged member result.0 result.1 (judged_response said) }
 {
     match said {
-        Said::Common(Ok(line)) => take_common(alloc, member, line),
+        Said::Common(Ok(line)) => take_common(alloc, member, &line),
         Said::Own(Ok(line), _) => {
             let told = answer(alloc, &mut member, line);
             (Host::Judged(member), told)
