@@ -16,7 +16,10 @@ use Rattle.wb_dialog.specs.declared.fault.Refusal.TheVariants as refusals
 use Rattle.wb_dialog.specs.declared.fault.Unanswered.{Unanswered}
 use Rattle.wb_dialog.specs.declared.fault.Unanswered.TheVariants as unanswered
 use Rattle.wb_dialog.specs.declared.judged_line.JudgeLine.{JudgeLine}
+use Rattle.wb_judging.specs.declared.call.Call.TheVariants.{Passed}
+use Rattle.wb_judging.specs.declared.news.News.TheVariants.{Nothing}
 use Rattle.wb_dialog.specs.declared.judged_line.JudgedLine.{JudgedLine}
+use Rattle.wb_dialog.specs.declared.judged_line.JudgedLine.TheVariants.{Call as Calls}
 use Rattle.wb_dialog.specs.declared.line.DriverLine.{DriverLine}
 use Rattle.wb_dialog.specs.declared.line.DriverLine.TheVariants.{Keep, Script}
 use Rattle.wb_dialog.specs.declared.said.Said.{Said}
@@ -162,11 +165,11 @@ by_member m new h (Err unanswered.Memory) (prints None text) at kept did = absur
 by_member m new h (Err unanswered.Memory) (denies e) at kept did = did
 
 -- a line that is no tick
-abbrev pub IsNoTick : DriverLine → Type 0
+abbrev IsNoTick : DriverLine → Type 0
 IsNoTick (Script (lines.Call (calls.Tick now))) = ⊥
 IsNoTick line = Unit {0}
 
-pub no_tick : (line : DriverLine) → ((now : ℕ) → line ≡ Script (lines.Call (calls.Tick now)) → ⊥) → IsNoTick line
+no_tick : (line : DriverLine) → ((now : ℕ) → line ≡ Script (lines.Call (calls.Tick now)) → ⊥) → IsNoTick line
 no_tick (Script (lines.Call (calls.Tick now))) none = absurd (none now refl)
 no_tick line none = tt
 
@@ -174,11 +177,11 @@ kept_common : (line : DriverLine) → IsNoTick line → (h : Judged) → as_kept
 kept_common (Script (lines.Call (calls.Tick now))) none h = absurd none
 kept_common line none h = refl
 
-pub leads_common : (m : JudgedValue) (old new : KeptValue) (judge : Judge) (line : DriverLine) (result : Result Told Unanswered) → IsNoTick line → old ≡ m.kept → judge ≡ m.judge → DoesKept old new result (kept_reply line)
+pub leads_common : (m : JudgedValue) (old new : KeptValue) (judge : Judge) (line : DriverLine) (result : Result Told Unanswered) → ((now : ℕ) → line ≡ Script (lines.Call (calls.Tick now)) → ⊥) → old ≡ m.kept → judge ≡ m.judge → DoesKept old new result (kept_reply line)
     → LeadsJudged m (values.Judged (record { kept = new; judge = judge })) result (common_response line)
 leads_common m old new judge line result none kept is did h at =
     subst (λ (j : Judge). Leads (judged h) (Some (values.Judged (record { kept = new; judge = j }))) result (common_response line h)) (sym is)
-    (subst (Leads (judged h) (Some (values.Judged (record { kept = new; judge = m.judge }))) result) (kept_common line none h)
+    (subst (Leads (judged h) (Some (values.Judged (record { kept = new; judge = m.judge }))) result) (kept_common line (no_tick line none) h)
     (by_member m new h result (kept_reply line h.kept) at (stays_kept line h.kept) (did h.kept (subst (λ (v : KeptValue). IsKeptAt v h.kept) (sym kept) at.kept))))
 
 -- It has a line for itself.
@@ -192,6 +195,12 @@ acts h new (Err unanswered.Memory) (fails e) did = did
 
 pub leads_own : (m new : JudgedValue) (line : JudgedLine) (result : Result Told Unanswered) → DoesJudged m new result (act line) → LeadsJudged m (values.Judged new) result (λ h. as_judged (act line h))
 leads_own m new line result did h at = acts h new result (act line h) (did h at)
+
+-- Of a tick its judge hears too.
+pub leads_tick : (m new : JudgedValue) (line : DriverLine) (now : ℕ) (result : Result Told Unanswered) → line ≡ Script (lines.Call (calls.Tick now)) → DoesJudged m new result (act (Calls (Passed now Nothing)))
+    → LeadsJudged m (values.Judged new) result (common_response line)
+leads_tick m new line now result is did =
+    subst (λ (l : DriverLine). LeadsJudged m (values.Judged new) result (common_response l)) (sym is) (leads_own m new (Calls (Passed now Nothing)) result did)
 
 -- It refuses a line.
 pub leads_not : (m : JudgedValue) (e : Refusal) → LeadsJudged m (values.Judged m) (Err (unanswered.Refused e)) (λ h. rejects e)

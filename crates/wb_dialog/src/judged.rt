@@ -56,6 +56,7 @@ pub(crate) fn begin_to_judge(
 
 /// A line that any host has is answered as by its self-managing member, but for a tick, of which
 /// its judge hears too.
+#[tactic(auto, using(crate::proofs::EachKind::leads_tick, crate::proofs::EachKind::leads_common))]
 fn take_common(
     alloc: Global,
     mut member: JudgedMember,
