@@ -1,9 +1,10 @@
 //! What a line does at a judged host, and how a driven one becomes judged.
-ghost use Rattle.std.specs.Prelude.{◌≡◌, Some, true};
+ghost use Rattle.std.specs.Prelude.{◌≡◌, IfSome, Some, true};
+ghost use Rattle.wb_names.specs.Moments.{IsMoment};
 ghost use Rattle.wb_recovery.specs.Timing.{are_constants};
 ghost use Rattle.wb_dialog.specs.Doing.{LeadsFrom, LeadsJudged};
 ghost use Rattle.wb_dialog.specs.JudgedLines.{IsJudgeLine};
-ghost use Rattle.wb_dialog.specs.Kinds.{common_response, judged_response, response_by};
+ghost use Rattle.wb_dialog.specs.Kinds.{common_response, judged_response, response_by, tick_of};
 ghost use Rattle.wb_dialog.specs.Lines.{IsSaidWithin, IsWithin};
 ghost use Rattle.wb_dialog.specs.declared.opened.Host.TheVariants as values;
 ghost use Rattle.wb_dialog.specs.declared.said.Said.TheVariants as saids;
@@ -54,6 +55,18 @@ pub(crate) fn begin_to_judge(
     }
 }
 
+/// The moment of a tick.
+fn tick_of(line: &DriverLine) -> Option<u64>
+    requires { IsWithin line.now }
+    ensures tick { result ≡ tick_of line.now }
+    ensures moment { IfSome result IsMoment }
+{
+    match line {
+        DriverLine::Script(Command::Call(MemberCall::Tick { now })) => Some(*now),
+        _ => None,
+    }
+}
+
 /// A line that any host has is answered as by its self-managing member, but for a tick, of which
 /// its judge hears too.
 #[tactic(auto, using(crate::proofs::EachKind::leads_tick, crate::proofs::EachKind::leads_common))]
@@ -65,9 +78,9 @@ fn take_common(
     requires { IsWithin line.now }
     ensures { LeadsJudged member result.0 result.1 (common_response line.now) }
 {
-    match line {
-        DriverLine::Script(Command::Call(MemberCall::Tick { now })) => {
-            let (now, news) = (*now, News::Nothing);
+    match tick_of(line) {
+        Some(now) => {
+            let news = News::Nothing;
             let told = answer(
                 alloc,
                 &mut member,
@@ -75,7 +88,7 @@ fn take_common(
             );
             (Host::Judged(member), told)
         }
-        line => {
+        None => {
             let (mut kept, judge) = member.into_parts();
             let told = answer_kept(alloc, &mut kept, line);
             (Host::Judged(JudgedMember::of_parts(kept, judge)), told)
