@@ -22,7 +22,7 @@ use Rattle.wb_names.specs.declared.parts.Target.{Target}
 use Rattle.wb_dialog.specs.declared.judged_line.JudgedLine.TheVariants.{Call as Calls, List as Lists, Since as SinceThen}
 use Rattle.wb_dialog.specs.declared.told.Told.{Told}
 use Rattle.wb_dialog.specs.declared.told.Told.TheVariants as tolds
-use Rattle.wb_dialog.specs.Doing.{DoesAct, DoesJudged, unanswered_by_judged, unanswered_of}
+use Rattle.wb_dialog.specs.Doing.{DoesAct, DoesJudged, events_told, unanswered_by_judged, unanswered_of}
 use Rattle.wb_dialog.specs.Hosting.{kept_refusal}
 use Rattle.wb_dialog.specs.Judged.{act, did, does, drawn_target, fails, judged_refusal, since_of}
 use Rattle.wb_dialog.specs.Listing.{listed_first}
@@ -64,11 +64,15 @@ module _ (call : Call) (old new : JudgedValue) (h : Judged) where
       let fault : e ≡ f = ap (fault_in {X = Vec Event Global} f) answers.0 in
       subst (λ (g : JudgedFault). DoesAct h new (Err (unanswered_by_judged e)) (fails (judged_refusal g))) fault (denied h new e (subst (λ (v : JudgedValue). IsJudgedAt v h) (sym answers.1) at))
 
-pub called : (call : Call) (old new : JudgedValue) (events : Vec Event Global) → Answers call old (Ok events) new → DoesJudged old new (Ok (tolds.Events events)) (act (Calls call))
+called : (call : Call) (old new : JudgedValue) (events : Vec Event Global) → Answers call old (Ok events) new → DoesJudged old new (Ok (tolds.Events events)) (act (Calls call))
 called call old new events answers h at = called_by call old new h (call_fault call h) events (answers h at)
 
-pub uncalled : (call : Call) (old new : JudgedValue) (e : JudgedFault) → Answers {A = Global} call old (Err e) new → DoesJudged old new (Err (unanswered_by_judged e)) (act (Calls call))
+uncalled : (call : Call) (old new : JudgedValue) (e : JudgedFault) → Answers {A = Global} call old (Err e) new → DoesJudged old new (Err (unanswered_by_judged e)) (act (Calls call))
 uncalled call old new e answers h at = denied_by call old new h (call_fault call h) e at (answers h at)
+
+pub told_call : (call : Call) (old new : JudgedValue) (r : Result (Vec Event Global) JudgedFault) → Answers call old r new → DoesJudged old new (events_told r) (act (Calls call))
+told_call call old new (Ok events) answers = called call old new events answers
+told_call call old new (Err e) answers = uncalled call old new e answers
 
 -- ---- a question
 

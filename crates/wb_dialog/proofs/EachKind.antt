@@ -9,16 +9,17 @@ use Rattle.wb_member.specs.Holding.{IsOpenAt, MemberValue}
 use Rattle.wb_member.specs.Opened.{Opened, next_due}
 use Rattle.wb_commands.specs.declared.fault.LineFault.{LineFault}
 use Rattle.wb_commands.specs.declared.fault.LineFault.TheVariants as faults
-use Rattle.wb_commands.specs.declared.command.Command.TheVariants as lines
-use Rattle.wb_member.specs.declared.calls.Call.TheVariants as calls
 use Rattle.wb_dialog.specs.declared.fault.Refusal.{Refusal}
 use Rattle.wb_dialog.specs.declared.fault.Refusal.TheVariants as refusals
 use Rattle.wb_dialog.specs.declared.fault.Unanswered.{Unanswered}
 use Rattle.wb_dialog.specs.declared.fault.Unanswered.TheVariants as unanswered
 use Rattle.wb_dialog.specs.declared.judged_line.JudgeLine.{JudgeLine}
+use Rattle.wb_judging.specs.declared.call.Call.TheVariants.{Passed}
+use Rattle.wb_judging.specs.declared.news.News.TheVariants.{Nothing}
 use Rattle.wb_dialog.specs.declared.judged_line.JudgedLine.{JudgedLine}
+use Rattle.wb_dialog.specs.declared.judged_line.JudgedLine.TheVariants.{Call as Calls}
 use Rattle.wb_dialog.specs.declared.line.DriverLine.{DriverLine}
-use Rattle.wb_dialog.specs.declared.line.DriverLine.TheVariants.{Keep, Script}
+use Rattle.wb_dialog.specs.declared.line.DriverLine.TheVariants.{Keep}
 use Rattle.wb_dialog.specs.declared.said.Said.{Said}
 use Rattle.wb_dialog.specs.declared.said.Said.TheVariants as saids
 use Rattle.wb_dialog.specs.declared.told.Told.{Told}
@@ -29,7 +30,7 @@ use Rattle.wb_dialog.specs.Boards.{BoardValue}
 use Rattle.wb_dialog.specs.Doing.{DoesAct, DoesJudged, DoesKept, DoesOpen, DoesReply, IsKindAt, Leads, LeadsFrom, LeadsJudged, LeadsOpen, kept_response, kept_said}
 use Rattle.wb_dialog.specs.Hosting.{Host, Driven, Kept, Reply, prints, denies, in_time, kept_reply, reply, reply_to, taken_by}
 use Rattle.wb_dialog.specs.Judged.{Act, does, fails, act, begun}
-use Rattle.wb_dialog.specs.Kinds.{Kind, unjudged, judged, Response, rejects, as_judged, as_kept, as_unjudged, common_response, due_of, judge_response, judged_response, response_by, response_to, unjudged_response}
+use Rattle.wb_dialog.specs.Kinds.{Kind, unjudged, judged, Response, rejects, as_judged, as_kept, as_unjudged, common_by, common_response, due_of, judge_response, judged_response, response_by, response_to, tick_of, unjudged_response}
 use Rattle.wb_dialog.specs.Laws.{IsNoJudge}
 use Rattle.wb_dialog.specs.Lines.{as_refusal, said_of, unjudged_line}
 use Rattle.wb_dialog.proofs.Numbers.{IsKept, stays_kept}
@@ -161,24 +162,11 @@ by_member m new h (Err unanswered.Memory) (prints (Some (Driven host board)) tex
 by_member m new h (Err unanswered.Memory) (prints None text) at kept did = absurd kept
 by_member m new h (Err unanswered.Memory) (denies e) at kept did = did
 
--- a line that is no tick
-abbrev pub IsNoTick : DriverLine → Type 0
-IsNoTick (Script (lines.Call (calls.Tick now))) = ⊥
-IsNoTick line = Unit {0}
-
-pub no_tick : (line : DriverLine) → ((now : ℕ) → line ≡ Script (lines.Call (calls.Tick now)) → ⊥) → IsNoTick line
-no_tick (Script (lines.Call (calls.Tick now))) none = absurd (none now refl)
-no_tick line none = tt
-
-kept_common : (line : DriverLine) → IsNoTick line → (h : Judged) → as_kept h.judge (kept_reply line h.kept) ≡ common_response line h
-kept_common (Script (lines.Call (calls.Tick now))) none h = absurd none
-kept_common line none h = refl
-
-pub leads_common : (m : JudgedValue) (old new : KeptValue) (judge : Judge) (line : DriverLine) (result : Result Told Unanswered) → IsNoTick line → old ≡ m.kept → judge ≡ m.judge → DoesKept old new result (kept_reply line)
+pub leads_common : (m : JudgedValue) (old new : KeptValue) (judge : Judge) (line : DriverLine) (result : Result Told Unanswered) → None ≡ tick_of line → old ≡ m.kept → judge ≡ m.judge → DoesKept old new result (kept_reply line)
     → LeadsJudged m (values.Judged (record { kept = new; judge = judge })) result (common_response line)
 leads_common m old new judge line result none kept is did h at =
     subst (λ (j : Judge). Leads (judged h) (Some (values.Judged (record { kept = new; judge = j }))) result (common_response line h)) (sym is)
-    (subst (Leads (judged h) (Some (values.Judged (record { kept = new; judge = m.judge }))) result) (kept_common line none h)
+    (subst (λ (tick : Option ℕ). Leads (judged h) (Some (values.Judged (record { kept = new; judge = m.judge }))) result (common_by tick line h)) none
     (by_member m new h result (kept_reply line h.kept) at (stays_kept line h.kept) (did h.kept (subst (λ (v : KeptValue). IsKeptAt v h.kept) (sym kept) at.kept))))
 
 -- It has a line for itself.
@@ -192,6 +180,12 @@ acts h new (Err unanswered.Memory) (fails e) did = did
 
 pub leads_own : (m new : JudgedValue) (line : JudgedLine) (result : Result Told Unanswered) → DoesJudged m new result (act line) → LeadsJudged m (values.Judged new) result (λ h. as_judged (act line h))
 leads_own m new line result did h at = acts h new result (act line h) (did h at)
+
+-- Of a tick its judge hears too.
+pub leads_tick : (m new : JudgedValue) (line : DriverLine) (now : ℕ) (result : Result Told Unanswered) → Some now ≡ tick_of line → DoesJudged m new result (act (Calls (Passed now Nothing)))
+    → LeadsJudged m (values.Judged new) result (common_response line)
+leads_tick m new line now result is did h at =
+    subst (λ (tick : Option ℕ). Leads (judged h) (Some (values.Judged new)) result (common_by tick line h)) is (leads_own m new (Calls (Passed now Nothing)) result did h at)
 
 -- It refuses a line.
 pub leads_not : (m : JudgedValue) (e : Refusal) → LeadsJudged m (values.Judged m) (Err (unanswered.Refused e)) (λ h. rejects e)

@@ -11,17 +11,14 @@ use Rattle.wb_lines.specs.Input.{InputLine, content}
 use Rattle.wb_lines.specs.Taking.{met}
 use Rattle.wb_judging.specs.declared.call.Call.TheVariants.{Passed}
 use Rattle.wb_judging.specs.declared.news.News.TheVariants.{Nothing}
-use Rattle.wb_member.specs.declared.calls.Call.TheVariants as calls
-use Rattle.wb_commands.specs.declared.command.Command.TheVariants as lines
 use Rattle.wb_dialog.specs.declared.judged_line.JudgedLine.{JudgedLine}
 use Rattle.wb_dialog.specs.declared.judged_line.JudgedLine.TheVariants.{Call as Calls, Skip, Members, List as Lists, Lacks, Since, Paint, Words}
 use Rattle.wb_dialog.specs.declared.line.DriverLine.{DriverLine}
-use Rattle.wb_dialog.specs.declared.line.DriverLine.TheVariants.{Script}
 use Rattle.wb_dialog.specs.declared.said.Said.{Said}
 use Rattle.wb_dialog.specs.declared.said.Said.TheVariants as saids
 use Rattle.wb_dialog.specs.Hosting.{Host, Driven, Kept, Reply, prints, denies, kept_reply, reply}
 use Rattle.wb_dialog.specs.Judged.{Act, act, did, does, fails}
-use Rattle.wb_dialog.specs.Kinds.{Kind, unjudged, judged, Response, Standing, after, as_judged, as_kept, as_unjudged, common_response, judged_response, kind_after, response_by, response_of, standing_from, unjudged_response, unopened}
+use Rattle.wb_dialog.specs.Kinds.{Kind, unjudged, judged, Response, Standing, after, as_judged, as_kept, as_unjudged, common_by, judged_response, kind_after, response_by, response_of, standing_from, tick_of, unjudged_response, unopened}
 use Rattle.wb_dialog.specs.Lines.{as_refusal, said_of, unjudged_line}
 use Rattle.wb_dialog.proofs.Numbers.{IsKept, stays_kept}
 
@@ -80,12 +77,12 @@ by_kept h (prints (Some (Driven host board)) text) own kept = absurd kept
 by_kept h (prints None text) own kept = absurd kept
 by_kept h (denies e) own kept = own
 
-by_common : (line : DriverLine) (h : Judged) → IsOwn h → Stays (judged h) (common_response line h)
-by_common (Script (lines.Call (calls.Tick now))) h own = by_act (judged h) (act (Calls (Passed now Nothing)) h) own (leads_own (Calls (Passed now Nothing)) h own)
-by_common line h own = by_kept h (kept_reply line h.kept) own (stays_kept line h.kept)
+by_common : (tick : Option ℕ) (line : DriverLine) (h : Judged) → IsOwn h → Stays (judged h) (common_by tick line h)
+by_common (Some now) line h own = by_act (judged h) (act (Calls (Passed now Nothing)) h) own (leads_own (Calls (Passed now Nothing)) h own)
+by_common None line h own = by_kept h (kept_reply line h.kept) own (stays_kept line h.kept)
 
 by_judged : (said : Said) (h : Judged) → IsOwn h → Stays (judged h) (judged_response said h)
-by_judged (saids.Common (Ok line)) h own = by_common line h own
+by_judged (saids.Common (Ok line)) h own = by_common (tick_of line) line h own
 by_judged (saids.Common (Err e)) h own = own
 by_judged (saids.Own (Ok line) other) h own = by_act (judged h) (act line h) own (leads_own line h own)
 by_judged (saids.Own (Err e) other) h own = own

@@ -1,5 +1,6 @@
 -- What the code does for a line, by what the line is to do.
-use Rattle.std.specs.Prelude.{◌≡◌, ℕ, List, [], ◌++◌, Option, Some, None, Result, Ok, Err}
+use Rattle.std.specs.Prelude.{◌≡◌, ℕ, List, [], ◌++◌, Option, Some, None, Result, Ok, Err, Vec}
+use Rattle.std.specs.Global.{Global}
 use Rattle.std.specs.declared.convert.Infallible.{Infallible}
 use Rattle.wb_recovery.specs.declared.tuning.Tuning.{Tuning}
 use Rattle.wb_lines.specs.Input.{BeginsWith}
@@ -12,6 +13,7 @@ use Rattle.wb_keeping.specs.declared.kept_fault.KeptFault.{KeptFault}
 use Rattle.wb_keeping.specs.declared.kept_fault.KeptFault.TheVariants as kept_faults
 use Rattle.wb_judging.specs.Judged.{Judged}
 use Rattle.wb_judging.specs.Performing.{IsJudgedAt, JudgedValue}
+use Rattle.wb_judging.specs.declared.event.Event.{Event}
 use Rattle.wb_judging.specs.declared.judged_fault.JudgedFault.{JudgedFault}
 use Rattle.wb_judging.specs.declared.judged_fault.JudgedFault.TheVariants as judged_faults
 use Rattle.wb_member.specs.Holding.{MemberValue, IsOpenAt, MayBeOpenAt}
@@ -25,6 +27,7 @@ use Rattle.wb_dialog.specs.declared.line.DriverLine.{DriverLine}
 use Rattle.wb_dialog.specs.declared.said.Said.{Said}
 use Rattle.wb_dialog.specs.declared.said.Said.TheVariants as saids
 use Rattle.wb_dialog.specs.declared.told.Told.{Told}
+use Rattle.wb_dialog.specs.declared.told.Told.TheVariants.{Events}
 use Rattle.wb_dialog.specs.declared.opened.Host.{Host as HostValue}
 use Rattle.wb_dialog.specs.declared.opened.Host.TheVariants as values
 use Rattle.wb_dialog.specs.Dialog.{Answer, gives, refuses}
@@ -130,6 +133,11 @@ kept_response said k = kept_said (unjudged_line said) k
 abbrev pub unanswered_by_judged : JudgedFault → Unanswered
 unanswered_by_judged (judged_faults.Kept fault) = unanswered_of drawn_target fault
 unanswered_by_judged (judged_faults.Judge fault) = unanswered.Refused (judged_refusal (judged_faults.Judge fault))
+
+-- what a call comes to
+abbrev pub events_told : Result (Vec Event Global) JudgedFault → Result Told Unanswered
+events_told (Ok events) = Ok (Events events)
+events_told (Err fault) = Err (unanswered_by_judged fault)
 
 -- From a judged member on, it does what a line is to do, and has what that is to print; it refuses the line, and stays; or memory
 -- ran out.

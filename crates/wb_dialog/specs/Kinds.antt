@@ -56,9 +56,16 @@ as_kept j (prints next text) = answers (unjudged next) text
 as_kept j (denies e) = rejects e
 
 -- a line that any host has; of a tick its judge hears too
+abbrev pub tick_of : DriverLine → Option ℕ
+tick_of (Script (lines.Call (calls.Tick now))) = Some now
+tick_of line = None
+
+abbrev pub common_by : Option ℕ → DriverLine → Judged → Response
+common_by (Some now) line h = as_judged (act (Calls (Passed now Nothing)) h)
+common_by None line h = as_kept h.judge (kept_reply line h.kept)
+
 abbrev pub common_response : DriverLine → Judged → Response
-common_response (Script (lines.Call (calls.Tick now))) h = as_judged (act (Calls (Passed now Nothing)) h)
-common_response line h = as_kept h.judge (kept_reply line h.kept)
+common_response line h = common_by (tick_of line) line h
 
 abbrev pub judged_response : Said → Judged → Response
 judged_response (saids.Common (Ok line)) h = common_response line h

@@ -188,6 +188,7 @@ impl Dialog {
 
     /// What a line does, and what it comes to. If an allocation fails, nothing is promised of what
     /// is left: the host is given up.
+    #[tactic(auto, using(crate::proofs::EachKind::reads))]
     fn act(&mut self, alloc: Global, content: &[u8]) -> Result<Told, Unanswered>
         ensures does { LeadsFrom self.old.host self.new.host result
             (λ s. response_to self.old.tuning s content.now) }

@@ -1,9 +1,10 @@
 //! What a line does at a judged host, and how a driven one becomes judged.
-ghost use Rattle.std.specs.Prelude.{◌≡◌, Some, true};
+ghost use Rattle.std.specs.Prelude.{◌≡◌, IfSome, Some, true};
+ghost use Rattle.wb_names.specs.Moments.{IsMoment};
 ghost use Rattle.wb_recovery.specs.Timing.{are_constants};
 ghost use Rattle.wb_dialog.specs.Doing.{LeadsFrom, LeadsJudged};
 ghost use Rattle.wb_dialog.specs.JudgedLines.{IsJudgeLine};
-ghost use Rattle.wb_dialog.specs.Kinds.{common_response, judged_response, response_by};
+ghost use Rattle.wb_dialog.specs.Kinds.{common_response, judged_response, response_by, tick_of};
 ghost use Rattle.wb_dialog.specs.Lines.{IsSaidWithin, IsWithin};
 ghost use Rattle.wb_dialog.specs.declared.opened.Host.TheVariants as values;
 ghost use Rattle.wb_dialog.specs.declared.said.Said.TheVariants as saids;
@@ -54,33 +55,50 @@ pub(crate) fn begin_to_judge(
     }
 }
 
+/// The moment of a tick.
+fn tick_of(line: &DriverLine) -> Option<u64>
+    requires { IsWithin line.now }
+    ensures tick { result ≡ tick_of line.now }
+    ensures moment { IfSome result IsMoment }
+{
+    match line {
+        DriverLine::Script(Command::Call(MemberCall::Tick { now })) => Some(*now),
+        _ => None,
+    }
+}
+
 /// A line that any host has is answered as by its self-managing member, but for a tick, of which
 /// its judge hears too.
-#[tactic(auto, using(crate::proofs::EachKind::leads_common, crate::proofs::EachKind::leads_tick))]
+#[tactic(auto, using(crate::proofs::EachKind::leads_tick, crate::proofs::EachKind::leads_common))]
 fn take_common(
     alloc: Global,
     mut member: JudgedMember,
-    line: DriverLine,
+    line: &DriverLine,
 ) -> (Host, Result<Told, Unanswered>)
-    requires { IsWithin line }
-    ensures { LeadsJudged member result.0 result.1 (common_response line) }
+    requires { IsWithin line.now }
+    ensures { LeadsJudged member result.0 result.1 (common_response line.now) }
 {
-    if let DriverLine::Script(Command::Call(MemberCall::Tick { now })) = line {
-        let news = News::Nothing;
-        let told = answer(
-            alloc,
-            &mut member,
-            JudgedLine::Call(Call::Passed { now, news }),
-        );
-        return (Host::Judged(member), told);
+    match tick_of(line) {
+        Some(now) => {
+            let news = News::Nothing;
+            let told = answer(
+                alloc,
+                &mut member,
+                JudgedLine::Call(Call::Passed { now, news }),
+            );
+            (Host::Judged(member), told)
+        }
+        None => {
+            let (mut kept, judge) = member.into_parts();
+            let told = answer_kept(alloc, &mut kept, line);
+            (Host::Judged(JudgedMember::of_parts(kept, judge)), told)
+        }
     }
-    let (mut kept, judge) = member.into_parts();
-    let result = answer_kept(alloc, &mut kept, &line);
-    (Host::Judged(JudgedMember::of_parts(kept, judge)), result)
 }
 
 /// What a line does at a judged host, and what it comes to; or it is refused, and then the host
 /// stays as it is.
+#[tactic(auto, using(crate::proofs::EachKind::leads_own, crate::proofs::EachKind::leads_not))]
 pub(crate) fn take_judged(
     alloc: Global,
     mut member: JudgedMember,
@@ -90,7 +108,7 @@ pub(crate) fn take_judged(
     ensures { LeadsJudged member result.0 result.1 (judged_response said) }
 {
     match said {
-        Said::Common(Ok(line)) => take_common(alloc, member, line),
+        Said::Common(Ok(line)) => take_common(alloc, member, &line),
         Said::Own(Ok(line), _) => {
             let told = answer(alloc, &mut member, line);
             (Host::Judged(member), told)

@@ -1,6 +1,6 @@
 //! What a line does at a judged member, and what it comes to. Nothing is printed here.
 ghost use Rattle.std.specs.Prelude.{◌≡◌, IfOk, true};
-ghost use Rattle.wb_dialog.specs.Doing.{DoesJudged, unanswered_by_judged};
+ghost use Rattle.wb_dialog.specs.Doing.{DoesJudged, events_told, unanswered_by_judged};
 ghost use Rattle.wb_dialog.specs.Judged.{act};
 ghost use Rattle.wb_dialog.specs.JudgedLines.{IsWithin};
 ghost use Rattle.wb_display.specs.Canvas.{canvas_text, is_canvas_size};
@@ -14,7 +14,7 @@ use crate::told::Told;
 use std::alloc::{AllocError, Global};
 use wb_display::Canvas;
 use wb_judge::AddFault;
-use wb_judging::{JudgedFault, JudgedMember};
+use wb_judging::{Event, JudgedFault, JudgedMember};
 use wb_member::{Answer, Query};
 use wb_names::PageId;
 
@@ -29,6 +29,16 @@ fn refused(fault: JudgedFault) -> Unanswered
         JudgedFault::Judge(AddFault::Twin) => Unanswered::Refused(Refusal::Twin),
         JudgedFault::Judge(AddFault::Full) => Unanswered::Refused(Refusal::Full),
         JudgedFault::Kept(fault) => refused_by_kept(TARGET, fault),
+    }
+}
+
+/// What a call comes to.
+fn events_told(did: Result<Vec<Event>, JudgedFault>) -> Result<Told, Unanswered>
+    ensures { result ≡ events_told did }
+{
+    match did {
+        Ok(events) => Ok(Told::Events(events)),
+        Err(fault) => Err(refused(fault)),
     }
 }
 
@@ -124,10 +134,7 @@ pub(crate) fn answer(
     ensures { DoesJudged member.old member.new result (act line) }
 {
     match line {
-        JudgedLine::Call(said) => match member.call(alloc, &said) {
-            Ok(events) => Ok(Told::Events(events)),
-            Err(fault) => Err(refused(fault)),
-        },
+        JudgedLine::Call(said) => events_told(member.call(alloc, &said)),
         JudgedLine::Members => members(alloc, member),
         JudgedLine::List { most } => list(alloc, member, most),
         JudgedLine::Paint {

@@ -76,6 +76,7 @@ impl Host {
 
     /// What a line does, and what it comes to; or it is refused, and then the host stays as it is.
     /// If an allocation fails, nothing is promised of what is left: the host is given up.
+    #[tactic(auto, using(crate::proofs::EachKind::leads_judged))]
     pub fn take(self, alloc: Global, tuning: Tuning, said: Said) -> (Host, Result<Told, Unanswered>)
         requires constants { are_constants tuning ≡ true }
         requires line { IsSaidWithin said }
