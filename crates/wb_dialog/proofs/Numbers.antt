@@ -1,5 +1,5 @@
 -- A self-managing host stays one, and keeps its number, whatever its driver tells it.
-use Rattle.std.proofs.Common.{◌≡◌, ℕ, List, [], Option, Some, None, Result, Ok, Err, refl}
+use Rattle.std.proofs.Common.{◌≡◌, ℕ, List, [], Option, Some, None, refl}
 use Rattle.wb_keeping.specs.Kept.{Calls, Transition, adds, came, performs, ticks}
 use Rattle.wb_keeping.specs.Refusing.{add_fault, came_as, came_fault, drawn_as, tick_fault}
 use Rattle.wb_keeping.specs.Performing.{Keeping, sees}

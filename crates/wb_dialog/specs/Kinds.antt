@@ -1,5 +1,5 @@
 -- What a host of any kind does for a line of its driver, and what is written for the lines.
-use Rattle.std.specs.Prelude.{ℕ, List, [], ◌∷◌, ◌++◌, Bool, Option, Some, None, Result, Ok, Err}
+use Rattle.std.specs.Prelude.{ℕ, List, [], ◌∷◌, ◌++◌, Bool, Option, Some, None, Ok, Err}
 use Rattle.std.specs.List.{concat}
 use Rattle.std.specs.declared.convert.Infallible.{Infallible}
 use Rattle.wb_recovery.specs.declared.tuning.Tuning.{Tuning}
@@ -7,7 +7,6 @@ use Rattle.wb_judge.specs.Judge.{Judge}
 use Rattle.wb_judging.specs.Judged.{Judged}
 use Rattle.wb_judging.specs.declared.call.Call.TheVariants.{Passed}
 use Rattle.wb_judging.specs.declared.news.News.TheVariants.{Nothing}
-use Rattle.wb_keeping.specs.Performing.{Keeping}
 use Rattle.wb_lines.specs.Input.{InputLine, input_lines, content}
 use Rattle.wb_lines.specs.Handling.{Met, whole, too_long, Step, goes}
 use Rattle.wb_lines.specs.Taking.{met}

@@ -1,5 +1,5 @@
 -- Laws of the transcripts of a host.
-use Rattle.std.specs.Prelude.{◌≡◌, ◌<◌, ◌⊎◌, ℕ, List, [], ◌∷◌, ◌++◌, length, All, Bool, true, false, Option, Some, None, Result, Ok, if◌then◌else◌, codes}
+use Rattle.std.specs.Prelude.{◌≡◌, ◌<◌, ◌⊎◌, ℕ, List, [], ◌∷◌, ◌++◌, length, All, Bool, true, false, Option, Some, Result, Ok, if◌then◌else◌, codes}
 use Rattle.wb_names.specs.History.{IsHeld}
 use Rattle.wb_names.specs.Marks.{mark_of}
 use Rattle.wb_names.specs.declared.name.PageId.{PageId}

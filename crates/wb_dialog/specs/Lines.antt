@@ -1,5 +1,5 @@
 -- What a line of a driver says, or its first fault: a table of first words, and of what may follow each.
-use Rattle.std.specs.Prelude.{◌≡◌, ◌≤◌, ◌<◌, ℕ, ◌-◌, ◌^◌, List, [], ◌∷◌, Option, Some, None, Result, Ok, Err, IfOk, if◌then◌else◌, codes}
+use Rattle.std.specs.Prelude.{◌≤◌, ◌<◌, ℕ, ◌-◌, ◌^◌, List, [], ◌∷◌, Option, Some, None, Result, Ok, Err, IfOk, if◌then◌else◌, codes}
 use Rattle.std.specs.Str.{bytes_eq}
 use Rattle.wb_names.specs.Moments.{IsMoment}
 use Rattle.wb_names.specs.declared.moment.TheConstants.{MAX_MOMENT}

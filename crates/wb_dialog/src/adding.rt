@@ -2,7 +2,7 @@
 ghost use Rattle.std.specs.Prelude.{◌≡◌, IfOk, codes};
 ghost use Rattle.wb_names.specs.Moments.{IsMoment};
 ghost use Rattle.wb_words.specs.Adding.{adding_reading};
-ghost use Rattle.wb_dialog.specs.Adding.{add_line, added, begins_with_page, second_wrong, timed, untimed, unwritten, with_time, without_time};
+ghost use Rattle.wb_dialog.specs.Adding.{add_line, added, begins_with_page, second_wrong, timed, untimed, unwritten, without_time};
 ghost use Rattle.wb_dialog.specs.Lines.{IsSaidWithin};
 ghost use Rattle.wb_dialog.specs.Words.{behind as words_behind};
 

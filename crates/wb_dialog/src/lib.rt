@@ -10,14 +10,15 @@
 //! line makes it self-managing, or judged: from then on it decides for itself, and if it is judged,
 //! also which datagrams it takes, by their origins.
 //!
-//! In reading order: `line` has the lines of any host, and `judged_line` those of a judged one
-//! besides; `words`, `parsing`, `recorded` and `judged_parsing` read them, and `fault` says why
-//! one is refused. `told` is what a line comes to. `answering`, `keeping` and `judged_answering` do
-//! what a line says at a member and answer that; they print nothing. `record_text`, `texts` and
-//! `blocks` print it, and know no member. `board` is what a host keeps until it begins to be kept or
-//! judged (`beginning`). `opened` has the three kinds of an open host: `driving`, `keeping` and
-//! `judged` say what a line does at each. `dialog` joins them into a handler of lines, and `hosting`
-//! runs it. `laws` says what follows.
+//! In reading order: `line` has the lines of any host, `judged_line` those of a judged one besides,
+//! and `said` what a line says, by which hosts have it. `words`, `recorded`, `judged_parsing` and
+//! `adding` read what follows a first word, and `parsing` is the table of first words; `fault` says
+//! why a line is refused. `told` is what a line comes to. `answering`, `keeping` and
+//! `judged_answering` do what a line says at a member and answer that; they print nothing.
+//! `record_text`, `texts` and `blocks` print it, and know no member. `board` is what a host keeps
+//! until it begins to be kept or judged (`beginning`). `opened` has the three kinds of an open host:
+//! `driving`, `keeping` and `judged` say what a line does at each. `dialog` joins them into a
+//! handler of lines, and `hosting` runs it. `laws` says what follows.
 #![tactic(auto)]
 
 mod adding;
