@@ -124,8 +124,8 @@ owner_again n place owner small place_small owner_small =
     let both = two_words (decimal n) word (decimal_lacks 32 n (omega arith) (omega (arith, small))) (some_digits n (omega (arith, small))) none some in
     rw (both, value_again (2 ^ 32 - 1) n (omega (arith, small)) (omega (arith, small)), origin_again place owner place_small owner_small) refl where
       longer : (one other : List ℕ) → nat_eq (length (one ++ (codes "@" ++ other))) 0 ≡ false
-      longer [] other = refl
-      longer (b ∷ one) other = refl
+      longer [] other = grind (arith, nat_tests)
+      longer (b ∷ one) other = grind (arith, nat_tests)
 
 recorded_as : (line : List ℕ) (words' : Bool) (command' : Command) → script_line_of line ≡ Ok command' → begins_datagram line ≡ words' → (script_line_of line >>= recorded (begins_datagram line)) ≡ recorded words' command'
 recorded_as line words' command' one two = rw (one, two) refl
