@@ -1,4 +1,4 @@
-//! What a line of a driver says, by which hosts have it.
+//! What a line of a driver says, and which hosts have it.
 ghost use Rattle.std.specs.Prelude.{◌≡◌, IfOk};
 ghost use Rattle.wb_dialog.specs.Lines.{IsSaidWithin, IsWithin, unjudged_line};
 
