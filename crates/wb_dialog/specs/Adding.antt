@@ -1,4 +1,4 @@
--- What a line says with which the user draws: with a time at a host without a judge, and without one at a judged host, which has the time of day.
+-- What a line says that adds a drawing: with its time at a host without a judge, and without it at a judged host, which has the time of day.
 use Rattle.std.specs.Prelude.{ℕ, ◌-◌, List, ◌++◌, Bool, Option, Some, None, Result, Ok, Err, if◌then◌else◌, codes, is_some, nat_le}
 use Rattle.wb_words.specs.declared.adding.Adding.{Adding}
 use Rattle.wb_words.specs.declared.fault.WordFault.{WordFault}

@@ -1,4 +1,4 @@
-//! What a line says with which the user draws.
+//! What the lines say that add a drawing.
 ghost use Rattle.std.specs.Prelude.{◌≡◌, IfOk, codes};
 ghost use Rattle.wb_names.specs.Moments.{IsMoment};
 ghost use Rattle.wb_words.specs.Adding.{adding_reading};
