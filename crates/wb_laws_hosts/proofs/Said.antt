@@ -26,6 +26,7 @@ use Rattle.wb_laws_hosts.specs.Laws.{HeldWasSaid, IsOpenHost, SentOnce, SentWasS
 use Rattle.wb_laws_hosts.specs.Texts.{TextEvent, EventAt, HaveNumbers, IsMemberAt, Starts, Takes, deeds_at, deeds_by, deeds_of_event, deeds_said, hosting_at, sent_at_host, steps_of_texts}
 use Rattle.wb_laws_hosts.proofs.TextSessions.{older_numbered, texts_are_sessions, texts_behind}
 use Rattle.wb_laws_machines.proofs.Traces.{sent_later}
+use Rattle.wb_laws_machines.specs.Machines.{part, whole}
 
 -- ---- what lines send is sent by their steps
 
@@ -49,7 +50,7 @@ module _ (numbers : ℕ → ℕ) where
 
   longer : (events : List EventAt) (e : EventAt) (d : DrawopValue) → WasSaid numbers events d → WasSaid numbers (e ∷ events) d
   longer events e d w = record {
-    sent = record { newer = e ∷ w.sent.newer; e = w.sent.e; older = w.sent.older; split = ap (λ (s : List EventAt). e ∷ s) w.sent.split; line = w.sent.line; takes = w.sent.takes; out = w.sent.out };
+    sent = record { e = w.sent.e; older = w.sent.older; behind = part w.sent.behind; line = w.sent.line; takes = w.sent.takes; out = w.sent.out };
     source = w.source;
     said = w.said;
   }
@@ -78,10 +79,9 @@ module _ (numbers : ℕ → ℕ) where
         by (Starts tuning) is now = absurd (Contains-none (Does (Says (Draw d))) now.said)
         by (Takes line) is now = record {
           sent = record {
-            newer = [];
             e = e;
             older = older;
-            split = refl;
+            behind = whole;
             line = line;
             takes = is;
             out = sent_here s.tuning s.host (says_line (met line)) (host_at numbers (steps_of_texts older) e.place) (Draw d) (texts_are_sessions numbers older numbered.1 e.place) now.said now.sent;
