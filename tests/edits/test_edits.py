@@ -20,7 +20,7 @@ EDITS = sorted(TOP.glob("crates/*/must-fail/*.edit"))
 MOST = 186
 REFUSED = "refused, as it must be"
 # crates of which some edits were not tried without their clauses; none of them is to stay
-UNTRIED = tuple("wb wb_c wb_dialog wb_judge wb_judging wb_keeping wb_policy wb_script".split())
+UNTRIED = tuple("wb wb_c wb_judge wb_judging wb_keeping wb_policy".split())
 
 
 def crate_of(edit: Path) -> str:
